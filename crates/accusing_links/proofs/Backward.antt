@@ -34,9 +34,9 @@ use Rattle.accusing_links.proofs.Numbered.{IsNumbered, HasByte, arrives_numbered
 use Rattle.accusing_links.proofs.Inverted.{LinksMade, Nothing, Did, Composed, IsSent, Again, NoMessage, First, is_sent, IsMet, is_met_as, HasActed}
 use Rattle.accusing_links.proofs.Inverted.{Alone, Both, has_acted}
 use Rattle.accusing_links.proofs.Inverted as met
-use Rattle.accusing_links.proofs.Final.{N, P, Is, Fine, Comes, kept, Right, Came, message_may, damage_right, comes_right, UnitCame, AllCame}
+use Rattle.accusing_links.proofs.Final.{N, Is, Fine, Comes, kept, Right, Came, message_may, damage_right, comes_right, UnitCame, AllCame}
 use Rattle.accusing_links.proofs.Final.{all_behind, first_right}
-use Rattle.accusing_links.proofs.Follows.{all_same}
+use Rattle.accusing_links.proofs.AllFollow.{all_same}
 use Rattle.accusing_links.proofs.FollowSteps.{IsPlain, user_follows, arrived_follows, arrived_one, not_both}
 use Rattle.accusing_links.proofs.FollowSends.{sent_follows}
 use Rattle.accusing_links.proofs.Phases.{calls_in, calls_behind}
@@ -81,7 +81,7 @@ module _ (queues : Queues) (head : Head) (own far : ℕ) (before : List Passed) 
   made_follows links Nothing least = unmoved least
   made_follows links (Did event e) least = user_follows (N queues head before) queues own far least s.links event links e
   made_follows links (Composed packet body sent is e) least =
-      sent_follows (N queues head before) (P queues head before) queues own far s.links least packet (content_in_range body packet is) sent e
+      sent_follows (N queues head before) queues own far s.links least packet (content_in_range body packet is) sent e
 
   acted_state : (coming : List (List ℕ)) (after : WireLayers) (event : Event) → State queues head own far before s coming →
       HasActed queues s event after → Right queues head before after → State queues head own far before after coming

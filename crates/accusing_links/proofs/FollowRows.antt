@@ -1,23 +1,22 @@
 -- Every row that gives no address and no phase keeps it what is known of a link's last acknowledgement sent.
-use Rattle.std.proofs.Common.{◌≡◌, ℕ, Bool, true, Option, Some, None, List, Ok, refl, sym}
+use Rattle.std.proofs.Common.{◌≡◌, ℕ, true, Option, Some, None, refl, sym}
 use Rattle.std.specs.Prelude.{slice_get}
 use Rattle.dna_links.specs.declared.queue.Queues.{Queues}
 use Rattle.dna_links.specs.declared.queue.Queues.TheVariants.{Without, With}
 use Rattle.dna_links.specs.declared.queue.LinkQueue.{LinkQueue}
 use Rattle.dna_links.specs.Links.{LinkOf, LinkTruth, with_segments}
 use Rattle.dna_links.specs.Queues.{with_queue, settled, forgotten}
-use Rattle.dna_links.specs.Table.{Ask, Effect, Row, Asks}
 use Rattle.dna_links.specs.WireSegments.{WireSegments, wire_segments}
 use Rattle.dna_links.specs.WireLinks.{WireLinks}
-use Rattle.dna_links.specs.LinkBook.{blank, does, by_row, after}
-use Rattle.accusing_links.proofs.Answered.{Good}
+use Rattle.dna_links.specs.LinkBook.{blank, does}
 use Rattle.accusing_links.proofs.Received.{Received, delivers_received}
-use Rattle.accusing_links.proofs.Sends.{sends_acks_good, sends_segment_good, sends_late_good}
-use Rattle.accusing_links.proofs.Rows.{OfRow, IsKept, AreKept, row_kept, settled_by}
-use Rattle.accusing_links.proofs.Rows as rows
-use Rattle.accusing_links.proofs.LinkRows.{IsSmall, AreSmall}
-use Rattle.accusing_links.proofs.Follows.{keeps, Follows, follows_itself, follows_on, settles_follows, says_follows, forgotten_follows, IsCalm, AreCalm}
-use Rattle.accusing_links.proofs.Follows.{does_follows, AreFollowed, all_same, followed_changed, followed_pushed, all_booted}
+use Rattle.accusing_links.proofs.Sends.{sends_acks_good, sent_left}
+use Rattle.accusing_links.proofs.Along.{OfRow}
+use Rattle.accusing_links.proofs.Rows.{IsKept, AreKept, settled_by}
+use Rattle.accusing_links.proofs.LinkRows.{IsSmall}
+use Rattle.accusing_links.proofs.Follows.{keeps, Follows, follows_itself, follows_on, settles_follows, says_follows, forgotten_follows, IsCalm}
+use Rattle.accusing_links.proofs.Follows.{does_follows}
+use Rattle.accusing_links.proofs.AllFollow.{AreFollowed, all_same, followed_changed, followed_pushed, all_booted}
 
 module _ (queues : Queues) (own far least : ℕ) (Q : ℕ → Type 0) where
   abbrev pub Follows' : LinkOf WireSegments → LinkOf WireSegments → Type 0
@@ -54,26 +53,22 @@ module _ (queues : Queues) (own far least : ℕ) (Q : ℕ → Type 0) where
     pub blank_now : IsNow None (blank queues wire_segments)
     blank_now e = absurd cc
 
-    keep : (truth : LinkTruth (Unit {0})) → IsKept queues s IsNow IsSmall (IsCalm queues own far least Q) truth
+    pub keep : (truth : LinkTruth (Unit {0})) → IsKept queues s IsNow IsSmall (IsCalm queues own far least Q) truth
     keep truth = record {
       none = blank_now;
       there = now_at;
       delivered = λ message n l d made now. now_on n l (with_segments d l) now
           (segments_follow l l.queue d refl refl (λ is. delivers_received least Q message l.segments d made is));
-      sent = λ segment n l sent small made now. now_on n l (with_segments sent.segments l) now (segments_follow l l.queue sent.segments refl refl
-          (λ is. (sends_segment_good least Q l.segments is l.segsize segment small sent made).1));
-      late = λ segment n l late small made now. now_on n l (with_segments late.sent.segments l) now
-          (segments_follow l l.queue late.sent.segments refl refl
-          (λ is. (sends_late_good least Q l.segments is l.queue.gap l.segsize segment small late made).1));
-      acks = λ acks n l sent small made now. now_on n l (with_segments sent.segments l) now (segments_follow l l.queue sent.segments refl refl
+      sent = λ segment n l f gap small made now. now_on n l (with_queue (record l.queue { gap = gap }) (with_segments f l)) now
+          (segments_follow l (record l.queue { gap = gap }) f refl refl (λ is. (sent_left least Q segment l f small is made).1));
+      acks = λ acks n l sent gap small made now. now_on n l (with_queue (record l.queue { gap = gap }) (with_segments sent.segments l)) now
+          (segments_follow l (record l.queue { gap = gap }) sent.segments refl refl
           (λ is. (sends_acks_good least Q l.segments is acks small sent made).1));
-      gap = λ gap n l now. now_on n l (with_queue (record l.queue { gap = gap }) l) now
-          (segments_follow l (record l.queue { gap = gap }) l.segments refl refl (λ is. is));
       does = λ n l effect calm now. now_on n l (does queues wire_segments truth l effect) now
           (does_follows queues own far least Q truth l effect calm);
     }
 
-    all_keep : AreKept queues s IsNow Are
+    pub all_keep : AreKept queues s IsNow Are
     all_keep = record {
       same = all_same queues own far least Q s.links;
       there = now_at;
@@ -85,21 +80,3 @@ module _ (queues : Queues) (own far least : ℕ) (Q : ℕ → Type 0) where
       changes = λ x n l are now. followed_changed queues own far least Q s.links x.links n now.0 l are now.1 now.2;
       boots = all_booted queues own far least Q s.links;
     }
-
-    pub after_follows : (effects : List Effect) (n : Option ℕ) (l : LinkOf WireSegments) (k : Unit {0}) → IsNow n l →
-        Are (after queues wire_segments s effects n l k)
-    after_follows = rows.after_kept queues s IsNow Are all_keep
-
-    pub record IsCalmOf (asks : List Ask) (effects : List Effect) : Type 0 where
-      pub calm : AreCalm queues own far least Q effects
-      pub small : AreSmall asks
-
-    abbrev pub IsCalmRow : Row → Type 0
-    IsCalmRow (Asks asks effects) = IsCalmOf asks effects
-
-    pub calm_row : {R : Type 0} (rule : Bool → Bool) (truth : LinkTruth (Unit {0}))
-        (answer : List Effect → Option ℕ → LinkOf WireSegments → Unit {0} → R) (row : Row) (G : R → Type 0) → IsCalmRow row →
-        ((es : List Effect) (n : Option ℕ) (l : LinkOf WireSegments) (k : Unit {0}) → IsNow n l → G (answer es n l k)) →
-        Good G (by_row queues wire_segments rule truth s answer row)
-    calm_row {R} rule truth answer (Asks asks effects) G calm each =
-        row_kept queues s IsNow IsSmall (IsCalm queues own far least Q) truth (keep truth) rule answer asks effects G calm.calm calm.small each

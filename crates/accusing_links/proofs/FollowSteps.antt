@@ -1,66 +1,46 @@
 -- What the user does and what comes keeps it what is known of a link's last acknowledgement sent; and what comes first from a far address joins one
 -- link to it.
-use Rattle.std.proofs.Common.{◌≡◌, ℕ, ◌<◌, Bool, true, false, ◌&&◌, not, eqb, Option, Some, None, Result, Ok, List, [], ◌∷◌, refl, sym}
-use Rattle.std.proofs.Common.{subst, ap, ◌∙◌, ◌||◌, fold}
-use Rattle.std.specs.Prelude.{slice_get, is_some}
-use Rattle.std.proofs.lemmas.Bool.{and_parts}
-use Rattle.dna_packet.specs.Nsp.{SegmentValue, NspValue, DataSegment, LinkService, DataAck, OtherDataAck, ConnectAck, NoOperation, ConnectInitiate}
+use Rattle.std.proofs.Common.{◌≡◌, ℕ, ◌<◌, Bool, true, false, ◌&&◌, ◌⊎◌, not, eqb, Option, Some, None, List, [], ◌∷◌, refl, sym}
+use Rattle.std.proofs.Common.{subst, ap, ◌∙◌, fold}
+use Rattle.std.specs.Prelude.{slice_get}
+use Rattle.dna_packet.specs.Nsp.{SegmentValue, NspValue, DataSegment, LinkService, DataAck, OtherDataAck, ConnectInitiate}
 use Rattle.dna_packet.specs.Nsp.{ConnectConfirm, DisconnectInitiate, DisconnectConfirm, IsInRange}
-use Rattle.dna_station.specs.declared.link_refusal.LinkRefusal.{LinkRefusal}
-use Rattle.dna_station.specs.declared.link_refusal.LinkRefusal.TheVariants.{NoLink, LinkState, AddressInUse, CrossedLink, WrongNode}
+use Rattle.dna_station.specs.declared.link_refusal.LinkRefusal.TheVariants.{WrongNode}
 use Rattle.dna_links.specs.declared.port.Phase.{Phase}
-use Rattle.dna_links.specs.declared.port.Phase.TheVariants.{Calling, Called, Confirming, Running, Disconnecting, Ended}
-use Rattle.dna_links.specs.declared.port.LinkTest.TheVariants.{LiveAt, LiveTo, TheLink, CallingAt, CalledBy, ActedOn}
+use Rattle.dna_links.specs.declared.port.Phase.TheVariants.{Calling, Called, Confirming, Running, Disconnecting}
+use Rattle.dna_links.specs.declared.port.LinkTest.TheVariants.{TheLink, CallingAt, CalledBy, ActedOn}
 use Rattle.dna_links.specs.declared.queue.Queues.{Queues}
 use Rattle.dna_links.specs.declared.queue.Queues.TheVariants.{Without, With}
 use Rattle.dna_links.specs.declared.queue.Said.{Said}
 use Rattle.dna_links.specs.declared.tag.LinkTag.{LinkTag}
-use Rattle.dna_links.specs.LookUps.{is_live, is_in, is_calling, is_connected, is_at, has_both}
+use Rattle.dna_links.specs.LookUps.{is_live, is_in, is_calling, is_connected}
 use Rattle.dna_links.specs.Links.{LinkOf, LinkTruth, Carried, with_segments}
-use Rattle.dna_links.specs.Queues.{in_use, port_of_waiting, has_waiting, is_over, goes_on, goes_to}
-use Rattle.dna_links.specs.Table.{Ask, Finds, FindsEither, FindsNone, ForThisLink, OfThisPair, InPhase, Effect, OpenHere, GiveAddress, Connect, GoTo}
-use Rattle.dna_links.specs.Table.{Drop, End, TakeSegment, TakeAcks, found_in, user_row, arrival_row}
-use Rattle.dna_links.specs.User.{LinkEventValue, Open, Accept, Reject, In, Up, Close, Abort, Boot}
+use Rattle.dna_links.specs.Queues.{in_use, port_of_waiting, has_waiting, is_over, goes_on, goes_to, ends_by_message, drops}
+use Rattle.dna_links.specs.Table.{Row, Effect, GoTo, TakeSegment, TakeAcks, user_row, arrival_row}
+use Rattle.dna_links.specs.User.{LinkEventValue, Open, Accept, Reject, Close, Abort}
 use Rattle.dna_links.specs.WireSegments.{WireSegments, wire_segments, takes_segment}
 use Rattle.dna_links.specs.WireLinks.{WireLinks, wire_links_user, wire_links_arrived}
-use Rattle.dna_links.specs.LinkBook.{blank, does, are_same, kept, asked, by_row, after, of_none}
+use Rattle.dna_links.specs.LinkBook.{blank, does, after, of_none}
 use Rattle.dna_links.specs.Arriving.{PartnerRule}
-use Rattle.accusing_links.proofs.Answered.{Good, good_ok, good_err, good_check, link_good, in_use_good}
+use Rattle.accusing_links.proofs.Answered.{Good, good_check}
+use Rattle.accusing_links.proofs.Finds.{Found, either_there, in_live, connected_live, acted_on, called_by, ends_live}
+use Rattle.accusing_links.proofs.Along.{RowShows, comes_by_row}
+use Rattle.accusing_links.proofs.Rows.{IsCalmRow, calm_shows, user_kept, arrived_kept}
 use Rattle.accusing_links.proofs.Received.{segment_received}
 use Rattle.accusing_links.proofs.RightLinks.{Numbers}
-use Rattle.accusing_links.proofs.LinkSteps.{HasPassed, at_is, connected_live, in_run, kept_open, kept_answer, kept_connect, kept_confirm}
-use Rattle.accusing_links.proofs.TiedSteps.{kept_runs}
+use Rattle.accusing_links.proofs.LinkRows.{IsSmall}
+use Rattle.accusing_links.proofs.LinkSteps.{HasPassed, in_run}
 use Rattle.accusing_links.proofs.Follows.{keeps, live_keeps, Follows, follows_itself, follows_on, goes_follows, ends_follows, drops_follows}
-use Rattle.accusing_links.proofs.Follows.{requeued_follows}
-use Rattle.accusing_links.proofs.Follows.{all_follow, NoneTo, OneTo, all_same, one_pushed, one_changed, one_of_none}
-use Rattle.accusing_links.proofs.FollowRows.{Are, IsNow, after_follows, IsCalmRow, calm_row}
-
-pub in_live : (wanted phase : Phase) → is_in wanted phase ≡ true → is_live wanted ≡ true → is_live phase ≡ true
-in_live Calling Calling e f = refl
-in_live Called Called e f = refl
-in_live Confirming Confirming e f = refl
-in_live Running Running e f = refl
-in_live Disconnecting Disconnecting e f = refl
-in_live Ended Ended e f = absurd cc
-in_live wanted phase e f = absurd cc
-
-kept_end : (q : Queues) → kept q (End ∷ []) ≡ End ∷ []
-kept_end Without = refl
-kept_end With = refl
-
-pub kept_drop : (q : Queues) → kept q (Drop ∷ []) ≡ Drop ∷ []
-kept_drop Without = refl
-kept_drop With = refl
+use Rattle.accusing_links.proofs.Follows.{or_second, requeued_follows, IsCalm, all_follow}
+use Rattle.accusing_links.proofs.FarLinks.{NoneTo, OneTo, one_pushed, one_changed, one_of_none}
+use Rattle.accusing_links.proofs.Ports.{goes_far}
+use Rattle.accusing_links.proofs.FollowRows.{Are, IsNow, blank_now, keep, all_keep}
 
 -- a call in use keeps what has numbers
 open_before : (over : Bool) (phase : Phase) → is_in Calling phase ≡ true → not (over && is_in Disconnecting phase) ≡ true
 open_before true Calling e = refl
 open_before true phase e = absurd cc
 open_before false phase e = refl
-
-or_second : (a b : Bool) → b ≡ true → (a || b) ≡ true
-or_second true b e = refl
-or_second false b e = e
 
 calling_waits : (waits : Option Phase) (l : LinkOf WireSegments) → l.queue.waits ≡ waits →
     is_in Calling (port_of_waiting waits l.port).phase ≡ true → keeps With l ≡ true
@@ -72,18 +52,6 @@ calling_waits (Some phase) l at calling =
 calling_keeps : (q : Queues) (l : LinkOf WireSegments) → is_calling (in_use q l).phase ≡ true → keeps q l ≡ true
 calling_keeps Without l calling = live_keeps Without l (in_live Calling l.port.phase calling refl)
 calling_keeps With l calling = calling_waits l.queue.waits l refl calling
-
-kept_close : (q : Queues) → kept q (GoTo Disconnecting ∷ []) ≡ GoTo Disconnecting ∷ []
-kept_close Without = refl
-kept_close With = refl
-
-goes_far : (q : Queues) (phase : Phase) (l : LinkOf WireSegments) → (goes_to wire_segments q phase l).port.far ≡ l.port.far
-goes_far Without phase l = refl
-goes_far With phase l = go (is_live l.port.phase)
-  where
-    go : (b : Bool) → (goes_on wire_segments b phase l).port.far ≡ l.port.far
-    go true = refl
-    go false = refl
 
 pub not_both : {X : Type 0} (b : Bool) → b ≡ true → b ≡ false → X
 not_both b e f = absurd cc
@@ -130,17 +98,8 @@ module _ (N : Numbers) (queues : Queues) (own far least : ℕ) (s : WireLinks) w
   abbrev pub One : WireLinks → Type 0
   One x = OneTo far x.links
 
-  abbrev to_links : List Effect → Option ℕ → LinkOf WireSegments → Unit {0} → WireLinks
-  to_links es n l k = after queues wire_segments s es n l k
-
-  each : (es : List Effect) (n : Option ℕ) (l : LinkOf WireSegments) (k : Unit {0}) → IsNow queues own far least Q s n l → AreNow (to_links es n l k)
-  each es n l k now = after_follows queues own far least Q s es n l k now
-
   at : (n : ℕ) (l m : LinkOf WireSegments) → slice_get s.links n ≡ Some l → Follow l m → IsNow queues own far least Q s (Some n) m
   at n l m there is = (l, there, is)
-
-  unchanged : AreNow s
-  unchanged = all_same queues own far least Q s.links
 
   closes_follow : (q : Queues) → q ≡ queues → (l : LinkOf WireSegments) → is_connected (in_use q l).phase ≡ true →
       Follow l (goes_to wire_segments q Disconnecting l)
@@ -156,16 +115,17 @@ module _ (N : Numbers) (queues : Queues) (own far least : ℕ) (s : WireLinks) w
       go false e =
           requeued_follows queues own far least Q (Some Disconnecting) l.queue.said l (waits_open l.queue.waits l refl connected e)
 
-  module _ (rule : Bool → Bool) (truth : LinkTruth (Unit {0})) where
-    abbrev asks_by : List Effect → List Ask → Result WireLinks LinkRefusal
-    asks_by es asks = asked queues wire_segments rule truth s to_links es asks None (blank queues wire_segments) truth.known
+  module _ (truth : LinkTruth (Unit {0})) where
+    abbrev Shown : Row → Type 0
+    Shown row = RowShows queues truth s (λ es. IsNow queues own far least Q s) row
 
-    open_good : (given : ℕ) (es : List Effect) → es ≡ GiveAddress given ∷ OpenHere ∷ [] →
-        Good AreNow (asks_by es (FindsNone (LiveAt given) (Some AddressInUse) ∷ []))
-    open_good given es same = subst (λ (x : List Effect). Good AreNow (asks_by x (FindsNone (LiveAt given) (Some AddressInUse) ∷ []))) (sym same)
-        (link_good AreNow (LiveAt given) s _ _
-        (good_ok AreNow _ (each (GiveAddress given ∷ OpenHere ∷ []) None _ tt (λ e. absurd cc)))
-        (λ n l found. good_err AreNow AddressInUse))
+    calm : (row : Row) → IsCalmRow IsSmall (IsCalm queues own far least Q) row → Shown row
+    calm row is =
+        calm_shows queues s (IsNow queues own far least Q s) IsSmall (IsCalm queues own far least Q) truth (keep queues own far least Q s truth)
+        row is
+
+    none : IsNow queues own far least Q s None (blank queues wire_segments)
+    none = blank_now queues own far least Q s
 
     -- a called link gets an address
     addressed : (given : ℕ) (l : LinkOf WireSegments) → is_in Called l.port.phase ≡ true →
@@ -175,58 +135,23 @@ module _ (N : Numbers) (queues : Queues) (own far least : ℕ) (s : WireLinks) w
       known = λ k e g. not_both (is_in Called l.port.phase) called (k e (live_keeps queues l (in_live Called l.port.phase called refl))).begun;
     }
 
-    answer_good : (other given : ℕ) (phase : Phase) (es : List Effect) → is_in Called phase ≡ false → es ≡ GiveAddress given ∷ GoTo phase ∷ [] →
-        Good AreNow (asks_by es (Finds (CalledBy other) (Some NoLink) ∷ FindsNone (LiveAt given) (Some AddressInUse) ∷ []))
-    answer_good other given phase es late same =
-        subst (λ (x : List Effect). Good AreNow
-        (asks_by x (Finds (CalledBy other) (Some NoLink) ∷ FindsNone (LiveAt given) (Some AddressInUse) ∷ [])))
-        (sym same)
-        (link_good AreNow (CalledBy other) s _ _ (good_err AreNow NoLink) (λ n l found.
-        let called = (and_parts (is_in Called l.port.phase) (is_at l.port.far other) found.passes).0 in
+    answered : (other given : ℕ) (phase : Phase) → is_in Called phase ≡ false → (n : ℕ) (l : LinkOf WireSegments) → Found s (CalledBy other) n l →
+        IsNow queues own far least Q s (Some n) (goes_to wire_segments queues phase (record l { port = record l.port { own = Some given } }))
+    answered other given phase late n l found =
+        let called = called_by other n l s found in
         let with_own = record l { port = record l.port { own = Some given } } in
-        link_good AreNow (LiveAt given) s _ _
-        (good_ok AreNow _ (each (GiveAddress given ∷ GoTo phase ∷ []) (Some n) (goes_to wire_segments queues phase with_own) tt
-        (at n l (goes_to wire_segments queues phase with_own) found.there
+        at n l (goes_to wire_segments queues phase with_own) found.there
         (follows_on queues own far least Q l with_own (goes_to wire_segments queues phase with_own) (addressed given l called)
-        (goes_follows queues own far least Q queues refl phase with_own late (in_live Called l.port.phase called refl))))))
-        (λ m x other. good_err AreNow AddressInUse)))
+        (goes_follows queues own far least Q queues refl phase with_own late (in_live Called l.port.phase called refl)))
 
-    close_good : (given : ℕ) (es : List Effect) → es ≡ GoTo Disconnecting ∷ [] →
-        Good AreNow (asks_by es (found_in (LiveAt given) is_connected))
-    close_good given es same = subst (λ (x : List Effect). Good AreNow (asks_by x (found_in (LiveAt given) is_connected))) (sym same)
-        (in_use_good AreNow queues (LiveAt given) s _ _ (good_err AreNow NoLink) (λ n l found. by n l found.there) (λ n l found. by n l found.there))
-      where
-        by : (n : ℕ) (l : LinkOf WireSegments) → slice_get s.links n ≡ Some l →
-            Good AreNow
-            (asked queues wire_segments rule truth s to_links (GoTo Disconnecting ∷ []) (InPhase is_connected LinkState ∷ []) (Some n) l tt)
-        by n l there =
-            good_check AreNow (is_connected (in_use queues l).phase) _ _ (λ e.
-            good_ok AreNow _ (each (GoTo Disconnecting ∷ []) (Some n) _ tt (at n l _ there (closes_follow queues refl l e))))
-
-    abort_good : (given : ℕ) (es : List Effect) → es ≡ Drop ∷ [] → Good AreNow (asks_by es (found_in (LiveAt given) is_calling))
-    abort_good given es same = subst (λ (x : List Effect). Good AreNow (asks_by x (found_in (LiveAt given) is_calling))) (sym same)
-        (in_use_good AreNow queues (LiveAt given) s _ _ (good_err AreNow NoLink) (λ n l found. by n l found.there) (λ n l found. by n l found.there))
-      where
-        by : (n : ℕ) (l : LinkOf WireSegments) → slice_get s.links n ≡ Some l →
-            Good AreNow (asked queues wire_segments rule truth s to_links (Drop ∷ []) (InPhase is_calling LinkState ∷ []) (Some n) l tt)
-        by n l there =
-            good_check AreNow (is_calling (in_use queues l).phase) _ _ (λ e.
-            good_ok AreNow _ (each (Drop ∷ []) (Some n) _ tt
-            (at n l _ there (drops_follows queues own far least Q queues refl l (calling_keeps queues l e)))))
-
-    end_good : (given other : ℕ) (es : List Effect) → es ≡ End ∷ [] →
-        Good AreNow (asks_by es (FindsEither (TheLink given other) (CallingAt given) None ∷ []))
-    end_good given other es same =
-        subst (λ (x : List Effect). Good AreNow (asks_by x (FindsEither (TheLink given other) (CallingAt given) None ∷ []))) (sym same)
-        (link_good AreNow (TheLink given other) s _ _
-        (link_good AreNow (CallingAt given) s _ _ (good_ok AreNow s unchanged) (λ n l found.
-        by n l found.there (in_live Calling l.port.phase (and_parts (is_in Calling l.port.phase) (is_at l.port.own given) found.passes).0 refl)))
-        (λ n l found. by n l found.there (and_parts (is_live l.port.phase) (has_both l.port given other) found.passes).0))
-      where
-        by : (n : ℕ) (l : LinkOf WireSegments) → slice_get s.links n ≡ Some l → is_live l.port.phase ≡ true →
-            Good AreNow (asked queues wire_segments rule truth s to_links (End ∷ []) [] (Some n) l tt)
-        by n l there live =
-            good_ok AreNow _ (each (End ∷ []) (Some n) _ tt (at n l _ there (ends_follows queues own far least Q queues refl l live)))
+    user_shows : (event : LinkEventValue) → Shown (user_row event)
+    user_shows (Open given) = (tt, λ e. absurd cc)
+    user_shows (Accept other given) = (tt, λ n l found. (tt, answered other given Confirming refl n l found))
+    user_shows (Reject other given) = (tt, λ n l found. (tt, answered other given Disconnecting refl n l found))
+    user_shows (Close given) = λ n l used e. at n l (goes_to wire_segments queues Disconnecting l) used.there (closes_follow queues refl l e)
+    user_shows (Abort given) = λ n l used e. at n l (drops wire_segments queues l) used.there
+        (drops_follows queues own far least Q queues refl l (calling_keeps queues l e))
+    user_shows event = calm (user_row event) assumption
 
     -- ---- a message of RUN comes
 
@@ -244,93 +169,19 @@ module _ (N : Numbers) (queues : Queues) (own far least : ℕ) (s : WireLinks) w
         same Without e = e
         same With e = e
 
-    acted_good : (to from : ℕ) (effects es : List Effect) → es ≡ GoTo Running ∷ effects →
-        ((m : LinkOf WireSegments) → m.port.own ≡ Some to → m.port.far ≡ Some from →
-        Follow m (fold (does queues wire_segments truth) m effects)) →
-        Good AreNow (asks_by es (Finds (ActedOn to from) None ∷ OfThisPair CrossedLink ∷ []))
-    acted_good to from effects es same then =
-        subst (λ (x : List Effect). Good AreNow (asks_by x (Finds (ActedOn to from) None ∷ OfThisPair CrossedLink ∷ []))) (sym same)
-        (link_good AreNow (ActedOn to from) s _ _ (good_ok AreNow s unchanged) (λ n l found.
-        let parts = and_parts (is_connected l.port.phase) (has_both l.port to from) found.passes in
-        let both = and_parts (is_at l.port.own to) (is_at l.port.far from) parts.1 in
+    acted : (to from : ℕ) (effects : List Effect) →
+        ((m : LinkOf WireSegments) → m.port.own ≡ Some to → m.port.far ≡ Some from → Follow m (fold (does queues wire_segments truth) m effects)) →
+        (n : ℕ) (l : LinkOf WireSegments) → Found s (ActedOn to from) n l →
+        IsNow queues own far least Q s (Some n) (fold (does queues wire_segments truth) l (GoTo Running ∷ effects))
+    acted to from effects then n l found =
+        let acts = acted_on to from n l s found in
         let runs = goes_to wire_segments queues Running l in
-        let run = in_run queues l parts.0 in
+        let run = in_run queues l acts.0 in
         let left = fold (does queues wire_segments truth) l (GoTo Running ∷ effects) in
-        good_check AreNow (rule (are_same l.partner truth.tag.link && are_same (Some n) truth.tag.partner)) CrossedLink
-        (Ok (to_links (GoTo Running ∷ effects) (Some n) left tt)) (λ e.
-        good_ok AreNow (to_links (GoTo Running ∷ effects) (Some n) left tt) (each (GoTo Running ∷ effects) (Some n) left tt
-        (at n l left found.there
+        at n l left found.there
         (follows_on queues own far least Q l runs left
-        (goes_follows queues own far least Q queues refl Running l refl (connected_live l.port.phase parts.0))
-        (then runs (run.own ∙ at_is l.port.own to both.0) (run.far ∙ at_is l.port.far from both.1))))))))
-
-    -- ---- a link gets a far address: another one
-
-    connect_good : (src segsize : ℕ) (es : List Effect) → (src ≡ far → ⊥) → es ≡ Connect src segsize ∷ [] →
-        Good AreNow (asks_by es (FindsNone (LiveTo src) None ∷ []))
-    connect_good src segsize es other same =
-        subst (λ (x : List Effect). Good AreNow (asks_by x (FindsNone (LiveTo src) None ∷ []))) (sym same)
-        (link_good AreNow (LiveTo src) s _ _
-        (good_ok AreNow _ (each (Connect src segsize ∷ []) None _ tt (λ e. other (same_number src far e))))
-        (λ n l found. good_ok AreNow s unchanged))
-
-    confirm_good : (dst src segsize : ℕ) (es : List Effect) → (src ≡ far → ⊥) → es ≡ Connect src segsize ∷ GoTo Running ∷ [] →
-        Good AreNow (asks_by es (Finds (CallingAt dst) None ∷ ForThisLink CrossedLink ∷ []))
-    confirm_good dst src segsize es other same =
-        subst (λ (x : List Effect). Good AreNow (asks_by x (Finds (CallingAt dst) None ∷ ForThisLink CrossedLink ∷ []))) (sym same)
-        (link_good AreNow (CallingAt dst) s _ _ (good_ok AreNow s unchanged) (λ n l found.
-        let joined = record l { port = record l.port { far = Some src }; partner = truth.tag.link; segsize = segsize } in
-        good_check AreNow _ CrossedLink _ (λ e.
-        good_ok AreNow _ (each (Connect src segsize ∷ GoTo Running ∷ []) (Some n) _ tt
-        (at n l (goes_to wire_segments queues Running joined) found.there (record {
-          to = λ g. absurd (other (same_number src far (sym (goes_far queues Running joined) ∙ g)));
-          known = λ k g h. absurd (other (same_number src far (sym (goes_far queues Running joined) ∙ g)));
-        }))))))
-
-    -- ---- this one, where none had it
-
-    module _ (none : NoneTo far s.links) where
-      connect_one : (src segsize : ℕ) (es : List Effect) → es ≡ Connect src segsize ∷ [] → Good One (asks_by es (FindsNone (LiveTo src) None ∷ []))
-      connect_one src segsize es same =
-          subst (λ (x : List Effect). Good One (asks_by x (FindsNone (LiveTo src) None ∷ []))) (sym same)
-          (link_good One (LiveTo src) s _ _
-          (good_ok One _ (one_pushed far s.links _ none))
-          (λ n l found. good_ok One s (one_of_none far s.links none)))
-
-      confirm_one : (dst src segsize : ℕ) (es : List Effect) → es ≡ Connect src segsize ∷ GoTo Running ∷ [] →
-          Good One (asks_by es (Finds (CallingAt dst) None ∷ ForThisLink CrossedLink ∷ []))
-      confirm_one dst src segsize es same =
-          subst (λ (x : List Effect). Good One (asks_by x (Finds (CallingAt dst) None ∷ ForThisLink CrossedLink ∷ []))) (sym same)
-          (link_good One (CallingAt dst) s _ _ (good_ok One s (one_of_none far s.links none)) (λ n l found.
-          let left = fold (does queues wire_segments truth) l (Connect src segsize ∷ GoTo Running ∷ []) in
-          let made = to_links (Connect src segsize ∷ GoTo Running ∷ []) (Some n) left tt in
-          good_check One (rule (is_some truth.tag.link && are_same (Some n) truth.tag.partner)) CrossedLink (Ok made) (λ e.
-          good_ok One made (one_changed far s.links n left none))))
-
-  -- ---- all that may happen
-
-  calm : (event : LinkEventValue) → IsCalmRow queues own far least Q s (user_row event) → Good AreNow (wire_links_user queues s event)
-  calm event is = calm_row queues own far least Q s (λ test. test) (of_none queues wire_segments) to_links (user_row event) AreNow is each
-
-  pub user_follows : (event : LinkEventValue) → Good AreNow (wire_links_user queues s event)
-  user_follows (Open given) = open_good (λ test. test) (of_none queues wire_segments) given _ (kept_open queues given)
-  user_follows (Accept other given) =
-      answer_good (λ test. test) (of_none queues wire_segments) other given Confirming _ refl (kept_answer queues given Confirming)
-  user_follows (Reject other given) =
-      answer_good (λ test. test) (of_none queues wire_segments) other given Disconnecting _ refl (kept_answer queues given Disconnecting)
-  user_follows (In given message) = calm (In given message) (record { calm = (tt, tt); small = (tt, (tt, tt)) })
-  user_follows (Up given message) = calm (Up given message) (record { calm = (tt, tt); small = (tt, (tt, tt)) })
-  user_follows (Close given) = close_good (λ test. test) (of_none queues wire_segments) given _ (kept_close queues)
-  user_follows (Abort given) = abort_good (λ test. test) (of_none queues wire_segments) given _ (kept_drop queues)
-  user_follows Boot = calm Boot (record { calm = (tt, tt); small = tt })
-
-  module _ (rule : PartnerRule) (tag : LinkTag) where
-    abbrev truth : LinkTruth (Unit {0})
-    truth = record { tag = tag; known = tt }
-
-    comes_calm : (m : NspValue) → IsCalmRow queues own far least Q s (arrival_row m) →
-        Good AreNow (by_row queues wire_segments rule truth s to_links (arrival_row m))
-    comes_calm m calm = calm_row queues own far least Q s rule truth to_links (arrival_row m) AreNow calm each
+        (goes_follows queues own far least Q queues refl Running l refl (connected_live l.port.phase acts.0))
+        (then runs (run.own ∙ acts.1.0) (run.far ∙ acts.1.1)))
 
     same_passed : (to from number : ℕ) (m : LinkOf WireSegments) → N to from number → m.port.own ≡ Some to → m.port.far ≡ Some from →
         m.port.own ≡ Some own → m.port.far ≡ Some far → Q number
@@ -339,42 +190,70 @@ module _ (N : Numbers) (queues : Queues) (own far least : ℕ) (s : WireLinks) w
         let same_far : from ≡ far = same_number from far (sym f ∙ g) in
         subst (λ (x : ℕ). N x far number) same_own (subst (λ (x : ℕ). N to x number) same_far came)
 
-    message_follows : (m : NspValue) → IsInRange m → HasPassed N m → IsPlain far m →
-        Good AreNow (by_row queues wire_segments rule truth s to_links (arrival_row m))
-    message_follows (DataSegment segment) small came plain =
-        acted_good rule truth segment.dstaddr segment.srcaddr (TakeSegment segment ∷ []) _ (kept_runs queues (TakeSegment segment ∷ []) (tt, tt))
-        (λ m o f. taken_follows rule truth m segment small.1 (same_passed segment.dstaddr segment.srcaddr segment.number m came o f))
-    message_follows (DataAck dst src acks) small came plain =
-        acted_good rule truth dst src (TakeAcks acks ∷ []) _ (kept_runs queues (TakeAcks acks ∷ []) (tt, tt))
-        (λ m o f. all_follow queues own far least Q truth m (TakeAcks acks ∷ []) (tt, tt))
-    message_follows (LinkService interrupt dst src rest) small came plain =
-        acted_good rule truth dst src [] _ (kept_runs queues [] tt) (λ m o f. follows_itself queues own far least Q m)
-    message_follows (OtherDataAck dst src rest) small came plain =
-        acted_good rule truth dst src [] _ (kept_runs queues [] tt) (λ m o f. follows_itself queues own far least Q m)
-    message_follows (ConnectAck dst) small came plain = comes_calm (ConnectAck dst) (record { calm = tt; small = tt })
-    message_follows (NoOperation rest) small came plain = comes_calm (NoOperation rest) (record { calm = tt; small = tt })
-    message_follows (ConnectInitiate retransmitted src services info segsize user_data) small came plain =
-        connect_good rule truth src segsize _ plain (kept_connect queues src segsize)
-    message_follows (ConnectConfirm dst src services info segsize user_data) small came plain =
-        confirm_good rule truth dst src segsize _ plain (kept_confirm queues src segsize)
-    message_follows (DisconnectInitiate dst src reason user_data) small came plain = end_good rule truth dst src _ (kept_end queues)
-    message_follows (DisconnectConfirm dst src reason) small came plain = end_good rule truth dst src _ (kept_end queues)
+    -- ---- any message
 
-    message_one : NoneTo far s.links → (m : NspValue) → IsConnect m →
-        Good One (by_row queues wire_segments rule truth s to_links (arrival_row m))
-    message_one none (ConnectInitiate retransmitted src services info segsize user_data) is =
-        connect_one rule truth none src segsize _ (kept_connect queues src segsize)
-    message_one none (ConnectConfirm dst src services info segsize user_data) is =
-        confirm_one rule truth none dst src segsize _ (kept_confirm queues src segsize)
-    message_one none m is = absurd is
+    -- a link gets another far address
+    confirmed : (src segsize : ℕ) → (src ≡ far → ⊥) → (n : ℕ) (l : LinkOf WireSegments) → slice_get s.links n ≡ Some l →
+        IsNow queues own far least Q s (Some n) (goes_to wire_segments queues Running
+        (record l { port = record l.port { far = Some src }; partner = truth.tag.link; segsize = segsize }))
+    confirmed src segsize other n l there =
+        let joined = record l { port = record l.port { far = Some src }; partner = truth.tag.link; segsize = segsize } in
+        at n l (goes_to wire_segments queues Running joined) there (record {
+          to = λ g. absurd (other (same_number src far (sym (goes_far queues Running joined) ∙ g)));
+          known = λ k g h. absurd (other (same_number src far (sym (goes_far queues Running joined) ∙ g)));
+        })
+
+    ended : (given other n : ℕ) (l : LinkOf WireSegments) → Found s (TheLink given other) n l ⊎ Found s (CallingAt given) n l →
+        IsNow queues own far least Q s (Some n) (ends_by_message wire_segments queues l)
+    ended given other n l found =
+        at n l (ends_by_message wire_segments queues l) (either_there s (TheLink given other) (CallingAt given) n l found)
+        (ends_follows queues own far least Q queues refl l (ends_live given n l s other found))
+
+    message_shows : (m : NspValue) → IsInRange m → HasPassed N m → IsPlain far m → Shown (arrival_row m)
+    message_shows (DataSegment segment) small came plain = (
+      none,
+      acted segment.dstaddr segment.srcaddr (TakeSegment segment ∷ [])
+          (λ m o f. taken_follows m segment small.1 (same_passed segment.dstaddr segment.srcaddr segment.number m came o f)),
+    )
+    message_shows (DataAck dst src acks) small came plain =
+        (none, acted dst src (TakeAcks acks ∷ []) (λ m o f. all_follow queues own far least Q truth m (TakeAcks acks ∷ []) (tt, tt)))
+    message_shows (LinkService interrupt dst src rest) small came plain =
+        (none, acted dst src [] (λ m o f. follows_itself queues own far least Q m))
+    message_shows (OtherDataAck dst src rest) small came plain = (none, acted dst src [] (λ m o f. follows_itself queues own far least Q m))
+    message_shows (ConnectInitiate retransmitted src services info segsize user_data) small came plain =
+        (none, λ e. plain (same_number src far e))
+    message_shows (ConnectConfirm dst src services info segsize user_data) small came plain =
+        (none, λ n l found. confirmed src segsize plain n l found.there)
+    message_shows (DisconnectInitiate dst src reason user_data) small came plain = (none, ended dst src)
+    message_shows (DisconnectConfirm dst src reason) small came plain = (none, ended dst src)
+    message_shows m small came plain = calm (arrival_row m) assumption
+
+    -- this one, where none had it
+    one_shows : NoneTo far s.links → (m : NspValue) → IsConnect m →
+        RowShows queues truth s (λ es n l. One (after queues wire_segments s es n l tt)) (arrival_row m)
+    one_shows alone (ConnectInitiate retransmitted src services info segsize user_data) is =
+        (one_of_none far s.links alone, one_pushed far s.links _ alone)
+    one_shows alone (ConnectConfirm dst src services info segsize user_data) is =
+        (one_of_none far s.links alone, λ n l found. one_changed far s.links n _ alone)
+    one_shows alone m is = absurd is
+
+  -- ---- all that may happen
+
+  pub user_follows : (event : LinkEventValue) → Good AreNow (wire_links_user queues s event)
+  user_follows event =
+      user_kept queues s (IsNow queues own far least Q s) AreNow (all_keep queues own far least Q s) event
+      (user_shows (of_none queues wire_segments) event)
 
   pub arrived_follows : (rule : PartnerRule) (packet : Carried) (tag : LinkTag) → IsInRange packet.message → HasPassed N packet.message →
       IsPlain far packet.message → Good AreNow (wire_links_arrived queues rule s packet tag)
   arrived_follows rule packet tag small came plain =
-      good_check AreNow (eqb packet.src s.peer && eqb packet.dst s.node) WrongNode _ (λ e. message_follows rule tag packet.message small came plain)
+      arrived_kept queues s (IsNow queues own far least Q s) AreNow (all_keep queues own far least Q s) rule packet tag
+      (message_shows (record { tag = tag; known = tt }) packet.message small came plain)
 
   pub arrived_one : (rule : PartnerRule) (packet : Carried) (tag : LinkTag) → NoneTo far s.links → IsConnect packet.message →
       Good One (wire_links_arrived queues rule s packet tag)
   arrived_one rule packet tag none is =
       good_check One (eqb packet.src s.peer && eqb packet.dst s.node) WrongNode _ (λ e.
-      message_one rule tag none packet.message is)
+      comes_by_row queues (record { tag = tag; known = tt }) s (λ es n l. One (after queues wire_segments s es n l tt)) rule
+      (after queues wire_segments s) One (λ es n l k one. one) packet.message
+      (one_shows (record { tag = tag; known = tt }) none packet.message is))

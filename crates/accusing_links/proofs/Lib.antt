@@ -2,7 +2,10 @@ pub mod Packets
 -- what a station holds, and sends again
 pub mod Held
 -- the addresses of its node and of the other one stay
+pub mod Each
 pub mod Answered
+pub mod Finds
+pub mod Along
 pub mod Addresses
 -- no link has the address 0
 pub mod Named
@@ -31,10 +34,15 @@ pub mod Passing
 -- so what no node sends has no placing
 pub mod Final
 -- a link's last acknowledgement sent goes on
+pub mod FarLinks
+pub mod Ports
 pub mod Follows
+pub mod AllFollow
 pub mod FollowRows
 pub mod FollowSteps
 pub mod FollowSends
+-- and its words tell of it
+pub mod FollowSaid
 pub mod Inverted
 pub mod Numbered
 pub mod Phases

@@ -31,12 +31,15 @@ use Rattle.accusing_links.proofs.Numbered.{numbered_more}
 use Rattle.accusing_links.proofs.Inverted.{IsSent, Again, NoMessage, First}
 use Rattle.accusing_links.proofs.Final.{N, P, Right, right_later, AllCame}
 use Rattle.accusing_links.proofs.Final.{all_later, one_came, all_pushed}
-use Rattle.accusing_links.proofs.Follows.{NoneTo, OneTo, AreKnown, known_more, one_followed, none_followed}
+use Rattle.accusing_links.proofs.FarLinks.{NoneTo, OneTo}
+use Rattle.accusing_links.proofs.AllFollow.{AreKnown, known_more, one_followed, none_followed}
 use Rattle.accusing_links.proofs.FollowSteps.{not_both}
-use Rattle.accusing_links.proofs.FollowSends.{Says, SaysAlone, IsAtLeast, AreAtLeast, sent_follows, sent_none, sent_onward, sent_said}
+use Rattle.accusing_links.proofs.FollowSends.{Says, SaysAlone, sent_follows, sent_none, sent_onward}
+use Rattle.accusing_links.proofs.FollowSaid.{IsAtLeast, AreAtLeast, sent_said}
 use Rattle.accusing_links.proofs.Phases.{sent_own, sent_other, calls_own, calls_other, calls_in, calls_pushed, words_of, one_of_words}
 use Rattle.accusing_links.proofs.Phases.{IsPhase, Follow, said_follows}
-use Rattle.accusing_links.proofs.Onwards.{Q, said, Gone, none_back, or_cases, or_one, or_second, not_false}
+use Rattle.accusing_links.proofs.Onwards.{Q, said, Gone, none_back, or_cases, not_false}
+use Rattle.accusing_links.proofs.Follows.{or_first, or_second}
 use Rattle.accusing_links.proofs.Shown.{shown_none, shown_gone, shown_message, gone_now}
 
 module _ (queues : Queues) (head : Head) (own far : ℕ) where
@@ -119,7 +122,7 @@ module _ (queues : Queues) (head : Head) (own far : ℕ) where
           (list_any (is_back (told before) num own far) acks ≡ true → IsBackWord before num acks) → IsBackWord before num (word ∷ acks)
       go (inl this) rest = record {
         word = word;
-        among = or_one (is_word word.number word) _
+        among = or_first (is_word word.number word) _
             (and_from (is_of_data word.qualifier) (eqb word.number word.number) (and_parts (is_of_data word.qualifier) _ this).0
             (eq-eqb word.number word.number refl));
         back = this;
@@ -316,10 +319,10 @@ module _ (queues : Queues) (head : Head) (own far : ℕ) where
         small = content_in_range (body_of m) packet at
 
         none_of : NoneTo far s.links.links → Says own far (λ words. ⊥) packet.message
-        none_of none = sent_none (N queues head before) (P queues head before) queues own far s.links none packet sent_links made_by
+        none_of none = sent_none (N queues head before) queues own far s.links none packet sent_links made_by
 
         follows : Follow queues own far (Q own far before) s.links.links sent_links.links.links
-        follows least = sent_follows (N queues head before) (P queues head before) queues own far s.links least packet small sent_links made_by
+        follows least = sent_follows (N queues head before) queues own far s.links least packet small sent_links made_by
 
         tells : IsPhase queues own far (Q own far before) (calls_of before far) (calls_in coming far) (said own far before) s.links.links →
             Tells before s.links packet.message
@@ -327,7 +330,7 @@ module _ (queues : Queues) (head : Head) (own far : ℕ) where
         tells (inr a) = inr (
           a.all,
           λ least known.
-              sent_onward (N queues head before) (P queues head before) queues own far s.links least known packet small sent_links made_by,
+              sent_onward (N queues head before) queues own far s.links least known packet small sent_links made_by,
         )
 
         now_none : NoneTo far s.links.links → (n : ℕ) → sent_in (λ num. said_in) (Sound m) own far n ≡ true → ⊥

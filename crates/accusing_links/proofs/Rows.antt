@@ -1,10 +1,11 @@
 -- What holds of the link that a row is of holds of what the row makes of it, and so of all links: by any row of the tables. To be shown are the
 -- asks that change numbers and the effects, once each.
-use Rattle.std.proofs.Common.{◌≡◌, ℕ, Bool, true, false, ◌&&◌, Option, Some, None, Result, Ok, Err, List, [], ◌∷◌, fold, refl}
-use Rattle.std.specs.Prelude.{slice_get, ok_or, is_some}
+use Rattle.std.proofs.Common.{◌≡◌, ℕ, ◌&&◌, eqb, Option, Some, None, Ok, List, [], ◌∷◌, fold, refl}
+use Rattle.std.specs.Prelude.{slice_get}
 use Rattle.dna_packet.specs.declared.ack_word.AckWord.{AckWord}
 use Rattle.dna_packet.specs.Nsp.{SegmentValue}
 use Rattle.dna_station.specs.declared.link_refusal.LinkRefusal.{LinkRefusal}
+use Rattle.dna_station.specs.declared.link_refusal.LinkRefusal.TheVariants.{WrongNode}
 use Rattle.dna_links.specs.declared.port.Phase.{Phase}
 use Rattle.dna_links.specs.declared.port.Phase.TheVariants.{Running, Disconnecting}
 use Rattle.dna_links.specs.declared.port.LinkTest.{LinkTest}
@@ -13,22 +14,24 @@ use Rattle.dna_links.specs.declared.queue.Queues.{Queues}
 use Rattle.dna_links.specs.declared.queue.Queues.TheVariants.{Without, With}
 use Rattle.dna_links.specs.declared.queue.Said.{Said}
 use Rattle.dna_links.specs.declared.queue.Said.TheVariants.{OfRun, Disconnect}
-use Rattle.dna_links.specs.SegmentBook.{Sending, Late}
-use Rattle.dna_links.specs.Links.{LinkOf, LinkTruth, at_number, on_link, number_of, with_link, with_segments, begun, changed}
-use Rattle.dna_links.specs.Queues.{in_use, may_send, with_queue, further, requeued, shows_by, settled, forgotten, booted}
+use Rattle.dna_links.specs.declared.tag.LinkTag.{LinkTag}
+use Rattle.dna_links.specs.SegmentBook.{Sending}
+use Rattle.dna_links.specs.Links.{LinkOf, LinkTruth, Carried, at_number, on_link, number_of, with_link, with_segments, begun, changed}
+use Rattle.dna_links.specs.Queues.{with_queue, further, requeued, shows_by, settled, forgotten, booted, booted_link}
 use Rattle.dna_links.specs.Table.{Ask, Finds, FindsEither, FindsNone, FindsInUse, KnowsInUse, InPhase, InTurn, OrElse, ForThisLink, OfThisPair}
-use Rattle.dna_links.specs.Table.{Delivers}
-use Rattle.dna_links.specs.Table.{SendsSegment, SendsAcks, Effect, OpenHere, GiveAddress, Connect, GoTo, End, Drop, EndAll, Say, Settle, Keep, HandIn}
-use Rattle.dna_links.specs.Table.{TakeSegment, TakeAcks, Row, Asks}
+use Rattle.dna_links.specs.Table.{Delivers, SendsSegment, SendsAcks, Effect, GiveAddress, EndAll, Say, Settle, Row, Asks}
+use Rattle.dna_links.specs.Table.{user_row, arrival_row}
+use Rattle.dna_links.specs.User.{LinkEventValue}
 use Rattle.dna_links.specs.WireSegments.{WireSegments, wire_segments, delivers}
 use Rattle.dna_links.specs.WireSegments as wire
-use Rattle.dna_links.specs.WireLinks.{WireLinks}
-use Rattle.dna_links.specs.LinkBook.{on_ok, are_same, blank, does, kept, otherwise, waits, sends_segment, sends_acks, asked, by_row, others, after}
-use Rattle.accusing_links.proofs.Answered.{Good, good_ok, good_err, good_check, good_on, link_good, in_use_good, seen_good}
-
-abbrev pub Each : {X : Type 0} → (X → Type 0) → List X → Type 0
-Each P [] = Unit {0}
-Each P (x ∷ xs) = P x × Each P xs
+use Rattle.dna_links.specs.WireLinks.{WireLinks, wire_links_user, wire_links_sent, wire_links_arrived}
+use Rattle.dna_links.specs.LinkBook.{blank, does, kept, others, after, of_none}
+use Rattle.dna_links.specs.Sending.{Sent}
+use Rattle.dna_links.specs.Arriving.{PartnerRule}
+use Rattle.accusing_links.proofs.Each.{Each, each_at, each_pushed, each_changed, each_mapped}
+use Rattle.accusing_links.proofs.Answered.{Good, good_check}
+use Rattle.accusing_links.proofs.Finds.{either_there}
+use Rattle.accusing_links.proofs.Along.{OfRow, SentBy, Otherwise, Shows, RowShows, SendShows, Sends, user_by_row, comes_by_row, sent_good}
 
 -- what a node does not remember without queues is left out
 pub kept_each : (Calm : Effect → Type 0) (q : Queues) (effects : List Effect) → Each Calm effects → Each Calm (kept q effects)
@@ -47,7 +50,8 @@ module _ (queues : Queues) (truth : LinkTruth (Unit {0})) (Calm : Effect → Typ
   all_done l (effect ∷ effects) calm is = all_done (does queues wire_segments truth l effect) effects calm.1 (one l effect calm.0 is)
 
 -- what came for it was acted on
-pub settled_by : (Is : LinkOf WireSegments → Type 0) (waits : Option Phase) (l : LinkOf WireSegments) → Is (requeued wire_segments None l.queue.said l) →
+pub settled_by : (Is : LinkOf WireSegments → Type 0) (waits : Option Phase) (l : LinkOf WireSegments) →
+    Is (requeued wire_segments None l.queue.said l) →
     ((said : Said) → Is (requeued wire_segments l.queue.waits (further said l.queue.said) l)) → Is l → Is (settled wire_segments waits l)
 settled_by Is (Some phase) l settles says is = settles
 settled_by Is None l settles says is = go l.port.phase
@@ -59,9 +63,9 @@ settled_by Is None l settles says is = go l.port.phase
 
 -- ---- the link that a row is of
 
--- `Now` of the row's link, or at None of one that begins
-abbrev pub OfRow : Type 1
-OfRow = Option ℕ → LinkOf WireSegments → Type 0
+-- a row of such asks and effects alone
+abbrev pub IsCalmRow : (Ask → Type 0) → (Effect → Type 0) → Row → Type 0
+IsCalmRow Asked Calm (Asks asks effects) = Each Calm effects × Each Asked asks
 
 module _ (queues : Queues) (s : WireLinks) (Now : OfRow) where
   pub record IsKept (Asked : Ask → Type 0) (Calm : Effect → Type 0) (truth : LinkTruth (Unit {0})) : Type 0 where
@@ -69,100 +73,48 @@ module _ (queues : Queues) (s : WireLinks) (Now : OfRow) where
     pub there : (n : ℕ) (l : LinkOf WireSegments) → slice_get s.links n ≡ Some l → Now (Some n) l
     pub delivered : (message : List ℕ) (n : Option ℕ) (l : LinkOf WireSegments) (d : WireSegments) → delivers message l.segments ≡ Some d →
         Now n l → Now n (with_segments d l)
-    pub sent : (segment : SegmentValue) (n : Option ℕ) (l : LinkOf WireSegments) (made : Sending WireSegments (Unit {0})) →
-        Asked (SendsSegment segment) → wire.sends_segment l.segsize segment l.segments ≡ Ok made → Now n l → Now n (with_segments made.segments l)
-    pub late : (segment : SegmentValue) (n : Option ℕ) (l : LinkOf WireSegments) (made : Late WireSegments (Unit {0})) →
-        Asked (SendsSegment segment) → wire.sends_late l.queue.gap l.segsize segment l.segments ≡ Ok made → Now n l →
-        Now n (with_segments made.sent.segments l)
-    pub acks : (acks : List AckWord) (n : Option ℕ) (l : LinkOf WireSegments) (made : Sending WireSegments (Unit {0})) → Asked (SendsAcks acks) →
-        wire.sends_acks acks l.segments ≡ Ok made → Now n l → Now n (with_segments made.segments l)
-    pub gap : (gap : ℕ) (n : Option ℕ) (l : LinkOf WireSegments) → Now n l → Now n (with_queue (record l.queue { gap = gap }) l)
+    pub sent : (segment : SegmentValue) (n : Option ℕ) (l : LinkOf WireSegments) (f : WireSegments) (gap : ℕ) →
+        Asked (SendsSegment segment) → SentBy segment l f → Now n l → Now n (with_queue (record l.queue { gap = gap }) (with_segments f l))
+    pub acks : (acks : List AckWord) (n : Option ℕ) (l : LinkOf WireSegments) (made : Sending WireSegments (Unit {0})) (gap : ℕ) →
+        Asked (SendsAcks acks) → wire.sends_acks acks l.segments ≡ Ok made → Now n l →
+        Now n (with_queue (record l.queue { gap = gap }) (with_segments made.segments l))
     pub does : (n : Option ℕ) (l : LinkOf WireSegments) (effect : Effect) → Calm effect → Now n l → Now n (does queues wire_segments truth l effect)
 
   module _ (Asked : Ask → Type 0) (Calm : Effect → Type 0) (truth : LinkTruth (Unit {0})) (is : IsKept Asked Calm truth) where
-    module _ {R : Type 0} (rule : Bool → Bool) (answer : List Effect → Option ℕ → LinkOf WireSegments → Unit {0} → R) (effects : List Effect)
-        (calm : Each Calm effects) (G : R → Type 0)
-        (each : (es : List Effect) (n : Option ℕ) (l : LinkOf WireSegments) (k : Unit {0}) → Now n l → G (answer es n l k)) where
-      otherwise_kept : (refusal : Option LinkRefusal) → Good G (otherwise queues wire_segments rule truth s answer effects refusal)
-      otherwise_kept None = good_ok G _ (each [] None (blank queues wire_segments) truth.known is.none)
-      otherwise_kept (Some refusal) = good_err G refusal
+    module _ (effects : List Effect) (calm : Each Calm effects) where
+      otherwise_kept : (refusal : Option LinkRefusal) → Otherwise queues truth s (λ es. Now) effects refusal
+      otherwise_kept None = is.none
+      otherwise_kept (Some refusal) = tt
 
-      sends_kept : (q : Queues) (segment : SegmentValue) (n : Option ℕ) (l : LinkOf WireSegments)
-          (next : LinkOf WireSegments → Unit {0} → Result R LinkRefusal) → Asked (SendsSegment segment) → Now n l →
-          ((x : LinkOf WireSegments) (k : Unit {0}) → Now n x → Good G (next x k)) →
-          Good G (sends_segment queues wire_segments rule truth s answer effects q segment l next)
-      sends_kept Without segment n l next may now then =
-          good_on G (wire.sends_segment l.segsize segment l.segments) _ (λ sent made. then _ _ (is.sent segment n l sent may made now))
-      sends_kept With segment n l next may now then =
-          good_on G (wire.sends_late l.queue.gap l.segsize segment l.segments) _ (λ late made.
-          then _ _ (is.gap late.gap n (with_segments late.sent.segments l) (is.late segment n l late may made now)))
+      asks_kept : (asks : List Ask) (n : Option ℕ) (l : LinkOf WireSegments) → Each Asked asks → Now n l →
+          Shows queues truth s (λ es. Now) effects asks n l
+      asks_kept [] n l may now = all_done queues truth Calm (Now n) (is.does n) l effects calm now
+      asks_kept (Finds test refusal ∷ asks) n l may now =
+          (otherwise_kept refusal, λ m x found. asks_kept asks (Some m) x may.1 (is.there m x found.there))
+      asks_kept (FindsEither first second refusal ∷ asks) n l may now =
+          (otherwise_kept refusal, λ m x found. asks_kept asks (Some m) x may.1 (is.there m x (either_there s first second m x found)))
+      asks_kept (FindsNone test refusal ∷ asks) n l may now = (otherwise_kept refusal, asks_kept asks n l may.1 now)
+      asks_kept (FindsInUse test refusal ∷ asks) n l may now = λ m x used. asks_kept asks (Some m) x may.1 (is.there m x used.there)
+      asks_kept (KnowsInUse test refusal ∷ asks) n l may now =
+          λ m x used. (asks_kept asks (Some m) x may.1 (is.there m x used.there), asks_kept asks n l may.1 now)
+      asks_kept (InPhase phases refusal ∷ asks) n l may now = λ e. asks_kept asks n l may.1 now
+      asks_kept (InTurn phase refusal ∷ asks) n l may now = λ e. asks_kept asks n l may.1 now
+      asks_kept (OrElse so others ∷ asks) n l may now = (is.none, asks_kept asks n l may.1 now)
+      asks_kept (ForThisLink refusal ∷ asks) n l may now = asks_kept asks n l may.1 now
+      asks_kept (OfThisPair refusal ∷ asks) n l may now = asks_kept asks n l may.1 now
+      asks_kept (Delivers message refusal ∷ asks) n l may now =
+          λ d made. asks_kept asks n (with_segments d l) may.1 (is.delivered message n l d made now)
+      asks_kept (SendsSegment segment ∷ asks) n l may now =
+          λ f gap made. asks_kept asks n _ may.1 (is.sent segment n l f gap may.0 made now)
+      asks_kept (SendsAcks acks ∷ asks) n l may now =
+          λ sent gap made. asks_kept asks n _ may.1 (is.acks acks n l sent gap may.0 made now)
 
-      sends_acks_kept : (q : Queues) (acks : List AckWord) (n : Option ℕ) (l : LinkOf WireSegments)
-          (next : LinkOf WireSegments → Unit {0} → Result R LinkRefusal) → Asked (SendsAcks acks) → Now n l →
-          ((x : LinkOf WireSegments) (k : Unit {0}) → Now n x → Good G (next x k)) →
-          Good G (sends_acks queues wire_segments rule truth s answer effects q acks l next)
-      sends_acks_kept Without acks n l next may now then =
-          good_on G (wire.sends_acks acks l.segments) _ (λ sent made. then _ _ (is.acks acks n l sent may made now))
-      sends_acks_kept With acks n l next may now then =
-          good_on G (wire.sends_acks acks l.segments) _ (λ sent made.
-          then _ _ (is.gap _ n (with_segments sent.segments l) (is.acks acks n l sent may made now)))
+    pub calm_shows : (row : Row) → IsCalmRow Asked Calm row → RowShows queues truth s (λ es. Now) row
+    calm_shows (Asks asks effects) calm = asks_kept effects calm.0 asks None (blank queues wire_segments) calm.1 is.none
 
-      waits_kept : (q : Queues) (test : LinkTest) (refusal : LinkRefusal) (next : Result R LinkRefusal) → Good G next →
-          Good G (waits queues wire_segments rule truth s answer effects q test refusal next)
-      waits_kept Without test refusal next good = good_err G refusal
-      waits_kept With test refusal next good = seen_good G (in_use With) test s (Err refusal) (λ n l. next) (good_err G refusal) (λ n l found. good)
-
-      asked_kept : (asks : List Ask) (n : Option ℕ) (l : LinkOf WireSegments) (k : Unit {0}) → Each Asked asks → Now n l →
-          Good G (asked queues wire_segments rule truth s answer effects asks n l k)
-      asked_kept [] n l k may now = good_ok G _ (each _ _ _ _ (all_done queues truth Calm (Now n) (is.does n) l effects calm now))
-      asked_kept (Finds test refusal ∷ asks) n l k may now =
-          link_good G test s _ _ (otherwise_kept refusal) (λ m x found. asked_kept asks (Some m) x tt may.1 (is.there m x found.there))
-      asked_kept (FindsEither first second refusal ∷ asks) n l k may now =
-          link_good G first s _ _
-          (link_good G second s _ _ (otherwise_kept refusal) (λ m x found. asked_kept asks (Some m) x tt may.1 (is.there m x found.there)))
-          (λ m x found. asked_kept asks (Some m) x tt may.1 (is.there m x found.there))
-      asked_kept (FindsNone test refusal ∷ asks) n l k may now =
-          link_good G test s _ _ (asked_kept asks n l k may.1 now) (λ m x found. otherwise_kept refusal)
-      asked_kept (FindsInUse test refusal ∷ asks) n l k may now =
-          in_use_good G queues test s _ _ (good_err G refusal) (λ m x found. asked_kept asks (Some m) x tt may.1 (is.there m x found.there))
-          (λ m x found. asked_kept asks (Some m) x tt may.1 (is.there m x found.there))
-      asked_kept (KnowsInUse test refusal ∷ asks) n l k may now =
-          link_good G test s _ _ (waits_kept queues test refusal _ (asked_kept asks n l k may.1 now))
-          (λ m x found. asked_kept asks (Some m) x tt may.1 (is.there m x found.there))
-      asked_kept (InPhase phases refusal ∷ asks) n l k may now =
-          good_check G (phases (in_use queues l).phase) _ _ (λ e. asked_kept asks n l k may.1 now)
-      asked_kept (InTurn phase refusal ∷ asks) n l k may now =
-          good_check G (may_send queues phase l) refusal _ (λ e. asked_kept asks n l k may.1 now)
-      asked_kept (OrElse true others ∷ asks) n l k may now = asked_kept asks n l k may.1 now
-      asked_kept (OrElse false others ∷ asks) n l k may now =
-          good_ok G _ (each _ None (blank queues wire_segments) truth.known is.none)
-      asked_kept (ForThisLink refusal ∷ asks) n l k may now =
-          good_check G (rule (is_some truth.tag.link && are_same n truth.tag.partner)) refusal _ (λ e. asked_kept asks n l k may.1 now)
-      asked_kept (OfThisPair refusal ∷ asks) n l k may now =
-          good_check G (rule (are_same l.partner truth.tag.link && are_same n truth.tag.partner)) refusal _ (λ e. asked_kept asks n l k may.1 now)
-      asked_kept (Delivers message refusal ∷ asks) n l k may now =
-          go (delivers message l.segments) refl (λ d x. asked_kept asks n x k may.1)
-        where
-          go : (o : Option WireSegments) → delivers message l.segments ≡ o →
-              ((d : WireSegments) (x : LinkOf WireSegments) → Now n x →
-              Good G (asked queues wire_segments rule truth s answer effects asks n x k)) →
-              Good G (on_ok (ok_or o refusal) (λ d. asked queues wire_segments rule truth s answer effects asks n (with_segments d l) k))
-          go None e later = good_err G refusal
-          go (Some d) e later = later d (with_segments d l) (is.delivered message n l d e now)
-      asked_kept (SendsSegment segment ∷ asks) n l k may now =
-          sends_kept queues segment n l (asked queues wire_segments rule truth s answer effects asks n) may.0 now
-          (λ x y later. asked_kept asks n x y may.1 later)
-      asked_kept (SendsAcks acks ∷ asks) n l k may now =
-          sends_acks_kept queues acks n l (asked queues wire_segments rule truth s answer effects asks n) may.0 now
-          (λ x y later. asked_kept asks n x y may.1 later)
-
-    pub row_kept : {R : Type 0} (rule : Bool → Bool) (answer : List Effect → Option ℕ → LinkOf WireSegments → Unit {0} → R) (asks : List Ask)
-        (effects : List Effect) (G : R → Type 0) → Each Calm effects → Each Asked asks →
-        ((es : List Effect) (n : Option ℕ) (l : LinkOf WireSegments) (k : Unit {0}) → Now n l → G (answer es n l k)) →
-        Good G (by_row queues wire_segments rule truth s answer (Asks asks effects))
-    row_kept {R} rule answer asks effects G calm may each =
-        asked_kept rule answer (kept queues effects) (kept_each Calm queues effects calm) G each asks None (blank queues wire_segments) truth.known
-        may is.none
+    pub calm_sends : (row : Row) → IsCalmRow Asked Calm row → SendShows queues truth s (λ es. Now) row
+    calm_sends (Asks asks effects) calm =
+        asks_kept (kept queues effects) (kept_each Calm queues effects calm.0) asks None (blank queues wire_segments) calm.1 is.none
 
   -- ---- all links
 
@@ -189,20 +141,9 @@ module _ (queues : Queues) (s : WireLinks) (Now : OfRow) where
         go (Some n) = one n (slice_get s.links n) refl
 
     others_kept : (effects : List Effect) → Are (others queues wire_segments effects s)
-    others_kept (GiveAddress own ∷ effects) = found_kept (HasAddress own) (forgotten wire_segments queues) are.forgets
     others_kept [] = are.same
-    others_kept (OpenHere ∷ effects) = are.same
-    others_kept (Connect far segsize ∷ effects) = are.same
-    others_kept (GoTo phase ∷ effects) = are.same
-    others_kept (End ∷ effects) = are.same
-    others_kept (Drop ∷ effects) = are.same
-    others_kept (EndAll ∷ effects) = are.same
-    others_kept (Say said ∷ effects) = are.same
-    others_kept (Keep ∷ effects) = are.same
-    others_kept (HandIn message ∷ effects) = are.same
-    others_kept (TakeSegment segment ∷ effects) = are.same
-    others_kept (TakeAcks acks ∷ effects) = are.same
-    others_kept (Settle own ∷ effects) = are.same
+    others_kept (GiveAddress own ∷ effects) = found_kept (HasAddress own) (forgotten wire_segments queues) are.forgets
+    others_kept (effect ∷ effects) = are.same
 
     pub after_kept : (effects : List Effect) (n : Option ℕ) (l : LinkOf WireSegments) (k : Unit {0}) → Now n l →
         Are (after queues wire_segments s effects n l k)
@@ -212,3 +153,68 @@ module _ (queues : Queues) (s : WireLinks) (Now : OfRow) where
     after_kept (EndAll ∷ effects) n l k now = are.boots
     after_kept (effect ∷ effects) None l k now = are.pushes _ l (others_kept (effect ∷ effects)) now
     after_kept (effect ∷ effects) (Some m) l k now = are.changes _ m l (others_kept (effect ∷ effects)) now
+
+    -- ---- what the user does, what comes, and what is sent
+
+    abbrev left : List Effect → Option ℕ → LinkOf WireSegments → Unit {0} → WireLinks
+    left effects n l k = after queues wire_segments s effects n l k
+
+    pub user_kept : (event : LinkEventValue) → RowShows queues (of_none queues wire_segments) s (λ es. Now) (user_row event) →
+        Good Are (wire_links_user queues s event)
+    user_kept event shows =
+        user_by_row queues (of_none queues wire_segments) s (λ es. Now) (λ test. test) left Are after_kept event shows
+
+    pub arrived_kept : (rule : PartnerRule) (packet : Carried) (tag : LinkTag) →
+        RowShows queues (record { tag = tag; known = tt }) s (λ es. Now) (arrival_row packet.message) →
+        Good Are (wire_links_arrived queues rule s packet tag)
+    arrived_kept rule packet tag shows =
+        good_check Are (eqb packet.src s.peer && eqb packet.dst s.node) WrongNode _ (λ e.
+        comes_by_row queues (record { tag = tag; known = tt }) s (λ es. Now) rule left Are after_kept packet.message shows)
+
+    pub sent_kept : (packet : Carried) → Sends queues s packet (λ es. Now) →
+        Good (λ (made : Sent WireSegments (Unit {0})). Are made.links) (wire_links_sent queues s packet)
+    sent_kept packet shows = sent_good queues s packet (λ es. Now) (λ made. Are made.links) after_kept shows
+
+-- ---- a law of each link by itself
+
+module _ (queues : Queues) (s : WireLinks) (Is : LinkOf WireSegments → Type 0) (are : Each Is s.links) where
+  pub each_keeps : ((l : LinkOf WireSegments) → Is l → Is (forgotten wire_segments queues l)) →
+      ((l : LinkOf WireSegments) → Is l → Is (settled wire_segments l.queue.waits l)) →
+      ((l : LinkOf WireSegments) → Is l → Is (booted_link wire_segments queues l)) → AreKept queues s (λ n. Is) (λ x. Each Is x.links)
+  each_keeps forgets settles boots = record {
+    same = are;
+    there = λ n l at. each_at Is s.links n l are at;
+    forgets = λ n l. forgets l;
+    settles = λ n l. settles l;
+    pushes = λ x l all is. each_pushed Is x.links l all is;
+    changes = λ x n l all is. each_changed Is x.links n l all is;
+    boots = each_mapped Is (booted_link wire_segments queues) boots s.links are;
+  }
+
+-- ---- what holds whatever the row is
+
+abbrev pub Any : {X : Type 0} → X → Type 0
+Any x = Unit {0}
+
+pub any : {X : Type 0} (xs : List X) → Each Any xs
+any [] = tt
+any (x ∷ xs) = (tt, any xs)
+
+module _ (queues : Queues) (s : WireLinks) (X : Type 0) (x : X) where
+  always_kept : (truth : LinkTruth (Unit {0})) → IsKept queues s (λ n l. X) Any Any truth
+  always_kept truth = record {
+    none = x;
+    there = λ n l at. x;
+    delivered = λ message n l d made now. x;
+    sent = λ segment n l f gap may made now. x;
+    acks = λ acks n l made gap may e now. x;
+    does = λ n l effect calm now. x;
+  }
+
+  pub always_shows : (truth : LinkTruth (Unit {0})) (row : Row) → RowShows queues truth s (λ es n l. X) row
+  always_shows truth (Asks asks effects) =
+      calm_shows queues s (λ n l. X) Any Any truth (always_kept truth) (Asks asks effects) (any effects, any asks)
+
+  pub always_sends : (truth : LinkTruth (Unit {0})) (row : Row) → SendShows queues truth s (λ es n l. X) row
+  always_sends truth (Asks asks effects) =
+      calm_sends queues s (λ n l. X) Any Any truth (always_kept truth) (Asks asks effects) (any effects, any asks)

@@ -8,12 +8,14 @@ use Rattle.dna_packet.specs.AckWord.{IsAckWord}
 use Rattle.dna_packet.specs.Nsp.{SegmentValue}
 use Rattle.dna_station.specs.declared.link_refusal.LinkRefusal.{LinkRefusal}
 use Rattle.dna_station.specs.declared.link_refusal.LinkRefusal.TheVariants.{WrongSegment, WrongAck, SegmentTooLong, LinkWindowFull}
+use Rattle.dna_links.specs.Links.{LinkOf}
 use Rattle.dna_links.specs.Segmentation.{Piece, piece_of, is_next_piece}
 use Rattle.dna_links.specs.SegmentBook.{Sending, Late, with_gap, wider, REACH, distance, wire, is_of_data}
 use Rattle.dna_links.specs.WireSegments.{WireSegments, LastSent, LateSent, last_of, all_named, with_last, sending, acks_named, sends_acks, with_new}
 use Rattle.dna_links.specs.WireSegments.{sends_new, is_repeat, sends_again, is_new, segment_named, sends_segment, all_named_late, went_on, new_late}
 use Rattle.dna_links.specs.WireSegments.{sends_late, highest_given}
 use Rattle.accusing_links.proofs.Answered.{Good, good_ok, good_err, good_check}
+use Rattle.accusing_links.proofs.Along.{SentBy, AtOnce, Waited}
 use Rattle.accusing_links.proofs.Words.{IsLast, Stands, AllStand, all_named_is, all_late_is}
 use Rattle.accusing_links.proofs.Received.{Holds, Received, AreFine}
 
@@ -105,8 +107,11 @@ module _ (least : ℕ) (Q : ℕ → Type 0) where
         let all = all_late_is is.highest received is.here least words (record { sent = sent; gap = gap }) next small is.last e in
         (fine_words true next.sent words all.0, relast least next.sent all.1, said_words true next.sent words all.0)
 
+  abbrev pub IsLeft : List AckWord → WireSegments → Type 0
+  IsLeft words f = AreFine Q words × Received least Q f × SaidIn Q f words
+
   abbrev pub IsSent : List AckWord → Sending WireSegments (Unit {0}) → Type 0
-  IsSent words sent = AreFine Q words × Received least Q sent.segments × SaidIn Q sent.segments words
+  IsSent words sent = IsLeft words sent.segments
 
   -- of words alone
   abbrev pub IsAcked : List AckWord → Sending WireSegments (Unit {0}) → Type 0
@@ -155,7 +160,7 @@ module _ (least : ℕ) (Q : ℕ → Type 0) where
         go true = new_good segsize (piece_of s) s.acks next (each next refl)
         go false = again_good (distance s.number (highest_given f.variables)) (piece_of s) s.acks next (each next refl)
 
-    pub sends_segment_good : (segsize : ℕ) (s : SegmentValue) → AllByRecursion IsAckWord s.acks → Good (IsSent s.acks) (sends_segment segsize s f)
+    sends_segment_good : (segsize : ℕ) (s : SegmentValue) → AllByRecursion IsAckWord s.acks → Good (IsSent s.acks) (sends_segment segsize s f)
     sends_segment_good segsize s small =
         segment_good segsize s (all_named (not (is_new s f.variables)) f.variables.received s.acks (last_of f))
         (λ next e. named_fine f.variables.received f.variables.pieces (last_of f) is (not (is_new s f.variables)) s.acks next small e)
@@ -172,7 +177,7 @@ module _ (least : ℕ) (Q : ℕ → Type 0) where
         gap_good s.acks (λ sent. next.gap) (sends_new segsize (piece_of s) next.sent f)
         (new_good segsize (piece_of s) s.acks next.sent (each next refl))
 
-    pub sends_late_good : (gap segsize : ℕ) (s : SegmentValue) → AllByRecursion IsAckWord s.acks → Good (IsLate s.acks) (sends_late gap segsize s f)
+    sends_late_good : (gap segsize : ℕ) (s : SegmentValue) → AllByRecursion IsAckWord s.acks → Good (IsLate s.acks) (sends_late gap segsize s f)
     sends_late_good gap segsize s small = go (is_new s f.variables)
       where
         go : (b : Bool) →
@@ -184,3 +189,9 @@ module _ (least : ℕ) (Q : ℕ → Type 0) where
             (λ next e. late_fine f.variables.received f.variables.pieces (last_of f) is gap s.acks next small e)
         go false =
             gap_good s.acks (λ sent. wider gap (went_on f sent.segments)) (sends_segment segsize s f) (sends_segment_good segsize s small)
+
+  -- what is left where a segment is sent
+  pub sent_left : (s : SegmentValue) (l : LinkOf WireSegments) (f : WireSegments) → AllByRecursion IsAckWord s.acks → Received least Q l.segments →
+      SentBy s l f → IsLeft s.acks f
+  sent_left s l f small is (AtOnce made e) = sends_segment_good l.segments is l.segsize s small made e
+  sent_left s l f small is (Waited made e) = sends_late_good l.segments is l.queue.gap l.segsize s small made e

@@ -8,15 +8,16 @@ use Rattle.dna_links.specs.declared.queue.Queues.{Queues}
 use Rattle.dna_links.specs.SegmentBook.{Sending}
 use Rattle.dna_links.specs.Links.{LinkOf, LinkTruth, with_segments}
 use Rattle.dna_links.specs.Queues.{with_queue, settled, forgotten, booted_link}
-use Rattle.dna_links.specs.Table.{Effect, Drop, EndAll, Say, Settle, Keep, HandIn, Row, Asks}
+use Rattle.dna_links.specs.Table.{Effect, Drop, EndAll, Say, Settle, Keep, HandIn}
 use Rattle.dna_links.specs.WireSegments.{WireSegments, wire_segments, delivers}
 use Rattle.dna_links.specs.WireSegments as wire
 use Rattle.dna_links.specs.WireLinks.{WireLinks}
-use Rattle.dna_links.specs.LinkBook.{blank, does, by_row, after}
-use Rattle.accusing_links.proofs.Answered.{Good}
-use Rattle.accusing_links.proofs.Rows.{Each, IsKept, AreKept, row_kept}
+use Rattle.dna_links.specs.LinkBook.{blank, does, after}
+use Rattle.accusing_links.proofs.Each.{Each}
+use Rattle.accusing_links.proofs.Rows.{IsKept, AreKept}
 use Rattle.accusing_links.proofs.Rows as rows
-use Rattle.accusing_segments.proofs.LinkRows.{IsQuiet, AreQuiet}
+use Rattle.accusing_segments.proofs.LinkRows.{IsQuiet}
+use Rattle.accusing_segments.proofs.Places.{pushed_place, set_place, mapped_place}
 
 -- effects by which no link begins, is called, answered or ended, and nothing comes
 abbrev pub IsPlain : Effect → Type 0
@@ -29,42 +30,6 @@ IsPlain effect = ⊥
 
 abbrev pub ArePlain : List Effect → Type 0
 ArePlain effects = Each IsPlain effects
-
-abbrev pub IsPlainRow : Row → Type 0
-IsPlainRow (Asks asks effects) = ArePlain effects × AreQuiet asks
-
--- ---- places
-
-pub pushed_place : {X : Type 0} (xs : List X) (x : X) (i : ℕ) (y : X) → slice_get (xs ++ x ∷ []) i ≡ Some y →
-    (slice_get xs i ≡ Some y) ⊎ ((i ≡ length xs) × (x ≡ y))
-pushed_place {X} [] x zero y e = inr (refl, cc)
-pushed_place {X} [] x (suc i) y e = absurd cc
-pushed_place {X} (first ∷ xs) x zero y e = inl e
-pushed_place {X} (first ∷ xs) x (suc i) y e = next (pushed_place xs x i y e)
-  where
-    next : (slice_get xs i ≡ Some y) ⊎ ((i ≡ length xs) × (x ≡ y)) →
-        (slice_get (first ∷ xs) (suc i) ≡ Some y) ⊎ ((suc i ≡ length (first ∷ xs)) × (x ≡ y))
-    next (inl there) = inl there
-    next (inr last) = inr (ap suc last.0, last.1)
-
-pub set_place : {X : Type 0} (xs : List X) (m : ℕ) (x : X) (i : ℕ) (y : X) → slice_get (slice_set xs m x) i ≡ Some y →
-    ((slice_get xs i ≡ Some y) × (i ≡ m → ⊥)) ⊎ ((i ≡ m) × (x ≡ y))
-set_place {X} [] m x i y e = absurd cc
-set_place {X} (first ∷ xs) zero x zero y e = inr (refl, cc)
-set_place {X} (first ∷ xs) zero x (suc i) y e = inl (e, λ same. absurd cc)
-set_place {X} (first ∷ xs) (suc m) x zero y e = inl (e, λ same. absurd cc)
-set_place {X} (first ∷ xs) (suc m) x (suc i) y e = next (set_place xs m x i y e)
-  where
-    next : ((slice_get xs i ≡ Some y) × (i ≡ m → ⊥)) ⊎ ((i ≡ m) × (x ≡ y)) →
-        ((slice_get (first ∷ xs) (suc i) ≡ Some y) × (suc i ≡ suc m → ⊥)) ⊎ ((suc i ≡ suc m) × (x ≡ y))
-    next (inl (there, other)) = inl (there, λ same. other cc)
-    next (inr (same, this)) = inr (ap suc same, this)
-
-mapped_place : {X Y : Type 0} (f : X → Y) (xs : List X) (i : ℕ) (y : Y) → slice_get (map f xs) i ≡ Some y →
-    (x : X) × ((slice_get xs i ≡ Some x) × (f x ≡ y))
-mapped_place {X} {Y} f [] i y e = absurd cc
-mapped_place {X} {Y} f (first ∷ xs) zero y e = (first, (refl, cc))
-mapped_place {X} {Y} f (first ∷ xs) (suc i) y e = mapped_place f xs i y e
 
 -- ---- what is kept of one link
 
@@ -126,19 +91,18 @@ module _ (queues : Queues) (Is : ℕ → LinkOf WireSegments → Type 0) where
       abbrev Are : WireLinks → Type 0
       Are x = All x.links
 
-      keeps : (truth : LinkTruth (Unit {0})) → IsKept queues s IsAt IsQuiet IsPlain truth
+      pub keeps : (truth : LinkTruth (Unit {0})) → IsKept queues s IsAt IsQuiet IsPlain truth
       keeps truth = record {
         none = stays.blank;
         there = are;
         delivered = λ message n l d made is. at_any n l (with_segments d l) (λ i here. stays.delivered message i l d made here) is;
-        sent = λ segment n l made quiet e is. absurd quiet;
-        late = λ segment n l made quiet e is. absurd quiet;
-        acks = λ acks n l sent quiet made is. at_any n l (with_segments sent.segments l) (λ i here. stays.acks acks i l sent made here) is;
-        gap = λ gap n l is. at_any n l (with_queue (record l.queue { gap = gap }) l) (λ i here. stays.gap gap i l here) is;
+        sent = λ segment n l f gap quiet made is. absurd quiet;
+        acks = λ acks n l sent gap quiet made is. at_any n l (with_queue (record l.queue { gap = gap }) (with_segments sent.segments l))
+            (λ i here. stays.gap gap i (with_segments sent.segments l) (stays.acks acks i l sent made here)) is;
         does = does_stay truth;
       }
 
-      all_keep : AreKept queues s IsAt Are
+      pub all_keep : AreKept queues s IsAt Are
       all_keep = record {
         same = are;
         there = are;
@@ -152,10 +116,3 @@ module _ (queues : Queues) (Is : ℕ → LinkOf WireSegments → Type 0) where
       pub after_stays : (effects : List Effect) (n : Option ℕ) (l : LinkOf WireSegments) (k : Unit {0}) → IsAt n l →
           Are (after queues wire_segments s effects n l k)
       after_stays = rows.after_kept queues s IsAt Are all_keep
-
-      pub plain_row : {R : Type 0} (rule : Bool → Bool) (truth : LinkTruth (Unit {0}))
-          (answer : List Effect → Option ℕ → LinkOf WireSegments → Unit {0} → R) (row : Row) (G : R → Type 0) → IsPlainRow row →
-          ((es : List Effect) (n : Option ℕ) (l : LinkOf WireSegments) (k : Unit {0}) → IsAt n l → G (answer es n l k)) →
-          Good G (by_row queues wire_segments rule truth s answer row)
-      plain_row {R} rule truth answer (Asks asks effects) G plain each =
-          row_kept queues s IsAt IsQuiet IsPlain truth (keeps truth) rule answer asks effects G plain.0 plain.1 each

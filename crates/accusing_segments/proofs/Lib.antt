@@ -1,5 +1,6 @@
 -- what a link has given was sent, and what it may send
 pub mod Gave
+pub mod Places
 pub mod SegmentSends
 -- so of every link of a node
 pub mod RightLinks

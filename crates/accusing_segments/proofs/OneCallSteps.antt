@@ -1,39 +1,40 @@
 -- What the user does and what comes keeps it that one link alone has these addresses; a CI or a CC by which one gets them is the first.
-use Rattle.std.proofs.Common.{◌≡◌, ℕ, Bool, true, false, ◌&&◌, eqb, Option, Some, None, Result, List, [], ◌∷◌, refl, sym, ap, subst}
-use Rattle.std.proofs.Common.{◌∙◌, ◌⊎◌, inl, inr}
+use Rattle.std.proofs.Common.{◌≡◌, ℕ, true, false, ◌&&◌, Option, Some, None, List, refl, sym, ap, subst, ◌∙◌, ◌⊎◌, inl, inr}
 use Rattle.std.specs.Prelude.{slice_get}
 use Rattle.std.proofs.lemmas.Bool.{and_parts}
-use Rattle.dna_packet.specs.Nsp.{NspValue, DataSegment, LinkService, DataAck, OtherDataAck, ConnectAck, NoOperation, ConnectInitiate}
+use Rattle.dna_packet.specs.Nsp.{NspValue, DataSegment, LinkService, DataAck, OtherDataAck, ConnectInitiate}
 use Rattle.dna_packet.specs.Nsp.{ConnectConfirm, DisconnectInitiate, DisconnectConfirm, IsInRange}
-use Rattle.dna_station.specs.declared.link_refusal.LinkRefusal.{LinkRefusal}
-use Rattle.dna_station.specs.declared.link_refusal.LinkRefusal.TheVariants.{NoLink, LinkState, AddressInUse, CrossedLink, WrongNode}
 use Rattle.dna_links.specs.declared.port.Phase.{Phase}
 use Rattle.dna_links.specs.declared.port.Phase.TheVariants.{Calling, Called, Confirming, Running, Disconnecting}
-use Rattle.dna_links.specs.declared.port.LinkTest.TheVariants.{TheLink, LiveAt, LiveTo, CallingAt, CalledBy, ActedOn}
+use Rattle.dna_links.specs.declared.port.LinkTest.TheVariants.{TheLink, LiveAt, CallingAt, CalledBy}
 use Rattle.dna_links.specs.declared.queue.Queues.{Queues}
 use Rattle.dna_links.specs.declared.tag.LinkTag.{LinkTag}
-use Rattle.dna_links.specs.LookUps.{is_live, is_in, is_calling, is_connected, is_at, has_both}
+use Rattle.dna_links.specs.LookUps.{is_live, is_in, is_connected, is_at}
 use Rattle.dna_links.specs.Links.{LinkOf, LinkTruth, Carried, with_segments}
-use Rattle.dna_links.specs.Queues.{goes_to, in_use}
-use Rattle.dna_links.specs.Table.{Ask, Finds, FindsEither, FindsNone, FindsInUse, InPhase, ForThisLink, OfThisPair, Effect, OpenHere, GiveAddress}
-use Rattle.dna_links.specs.Table.{Connect, GoTo, Drop, End, TakeSegment, TakeAcks, user_row, arrival_row}
-use Rattle.dna_links.specs.User.{LinkEventValue, Open, Accept, Reject, In, Up, Close, Abort, Boot}
+use Rattle.dna_links.specs.Queues.{goes_to, ends_by_message}
+use Rattle.dna_links.specs.Table.{Row, user_row, arrival_row}
+use Rattle.dna_links.specs.User.{LinkEventValue, Open, Accept, Reject, Close, Abort}
 use Rattle.dna_links.specs.WireSegments.{WireSegments, wire_segments, takes_segment, takes_acks}
 use Rattle.dna_links.specs.WireLinks.{WireLinks, wire_links_user, wire_links_arrived}
-use Rattle.dna_links.specs.LinkBook.{blank, does, asked, by_row, after, of_none}
+use Rattle.dna_links.specs.LinkBook.{blank, of_none}
 use Rattle.dna_links.specs.Arriving.{PartnerRule}
-use Rattle.accusing_links.proofs.Answered.{Good, good_ok, good_err, good_check, link_good}
+use Rattle.accusing_links.proofs.Answered.{Good}
+use Rattle.accusing_links.proofs.Each.{each_at}
+use Rattle.accusing_links.proofs.Finds.{Found, IsInUse, either_there, in_live, connected_live, acted_on, called_by, calling_at, ends_live}
+use Rattle.accusing_links.proofs.Along.{RowShows}
+use Rattle.accusing_links.proofs.Rows.{IsCalmRow, calm_shows, user_kept, arrived_kept}
 use Rattle.accusing_links.proofs.RightLinks.{is_early}
-use Rattle.accusing_links.proofs.LinkSteps.{at_is}
+use Rattle.accusing_links.proofs.Ports.{goes_own, goes_far, goes_live}
+use Rattle.accusing_links.proofs.LinkSteps.{called_early}
 use Rattle.accusing_segments.proofs.Gave.{Gave}
 use Rattle.accusing_segments.proofs.SentPieces.{Shown, Fits, acks_fit, segment_fits}
-use Rattle.accusing_segments.proofs.RightLinks.{Links, IsLinkRight, goes_right, AreRight, right_at}
-use Rattle.accusing_segments.proofs.LinkSteps.{HasCome, kept_open, kept_answer, kept_connect, kept_confirm, kept_run, kept_segment, kept_acks}
-use Rattle.accusing_segments.proofs.LinkSteps.{called_early, connected_live}
-use Rattle.accusing_segments.proofs.EachLink.{IsPlainRow, IsAt, All, after_stays, plain_row}
-use Rattle.accusing_segments.proofs.OneCall.{used_live, IsDead, goes_own, goes_far, goes_live, fresh_small, IsMine, none_mine, stays}
+use Rattle.accusing_segments.proofs.RightLinks.{Links, IsLinkRight, goes_right, AreRight}
+use Rattle.accusing_segments.proofs.LinkRows.{IsQuiet}
+use Rattle.accusing_segments.proofs.LinkSteps.{HasCome}
+use Rattle.accusing_segments.proofs.EachLink.{IsPlain, IsAt, All, keeps, all_keep}
+use Rattle.accusing_segments.proofs.OneCall.{used_live, IsDead, fresh_small, IsMine, none_mine, stays}
 use Rattle.accusing_segments.proofs.OneCall.{goes_mine, ended_mine, dropped_mine}
-use Rattle.accusing_segments.proofs.Used.{used_good, not_live, late_not_called, calling_live, called_live, kept_close, kept_drop, kept_end}
+use Rattle.accusing_segments.proofs.Used.{found_used, not_live, late_not_called}
 
 -- a CI or a CC by which a link gets these addresses
 abbrev pub IsCall : (own far : ℕ) → NspValue → Type 0
@@ -55,11 +56,8 @@ module _ (queues : Queues) (own far : ℕ) (S : Shown) (Qs : Links) where
       record { called = λ f c. let none = (is.called f c).0 in absurd cc; able = λ f o. let none = (is.able f o).0 in absurd cc }
 
   module _ (s : WireLinks) (old : AreRight Qs queues s.links) where
-    abbrev to_links : List Effect → Option ℕ → LinkOf WireSegments → Unit {0} → WireLinks
-    to_links es n l k = after queues wire_segments s es n l k
-
     right : (n : ℕ) (l : LinkOf WireSegments) → slice_get s.links n ≡ Some l → IsLinkRight Qs l
-    right n l at = right_at Qs queues s.links n l old at
+    right n l at = each_at (IsLinkRight Qs) s.links n l old at
 
     -- a link that gave nothing, where nothing was sent
     pub nothing_sent : (l : LinkOf WireSegments) → IsLinkRight Qs l → is_early l.port.phase ≡ true → ((n : ℕ) (p : _) → S n p → ⊥) →
@@ -70,21 +68,17 @@ module _ (queues : Queues) (own far : ℕ) (S : Shown) (Qs : Links) where
       abbrev Are : WireLinks → Type 0
       Are x = AllMine one x.links
 
-      each : (es : List Effect) (n : Option ℕ) (l : LinkOf WireSegments) (k : Unit {0}) → IsAt queues (Mine one) n l → Are (to_links es n l k)
-      each = after_stays queues (Mine one) (stays queues own far S (Qs own far) one) s are
+      module _ (truth : LinkTruth (Unit {0})) where
+        abbrev Asked : Row → Type 0
+        Asked row = RowShows queues truth s (λ es. IsAt queues (Mine one)) row
 
-      module _ (rule : Bool → Bool) (truth : LinkTruth (Unit {0})) where
-        abbrev asks_by : List Effect → List Ask → Result WireLinks LinkRefusal
-        asks_by es asks = asked queues wire_segments rule truth s to_links es asks None (blank queues wire_segments) truth.known
+        calm : (row : Row) → IsCalmRow IsQuiet IsPlain row → Asked row
+        calm row is =
+            calm_shows queues s (IsAt queues (Mine one)) IsQuiet IsPlain truth
+            (keeps queues (Mine one) (stays queues own far S (Qs own far) one) s are truth) row is
 
-        open_mine : (at : ℕ) (es : List Effect) → es ≡ GiveAddress at ∷ OpenHere ∷ [] →
-            Good Are (asks_by es (FindsNone (LiveAt at) (Some AddressInUse) ∷ []))
-        open_mine at es same =
-            subst (λ (x : List Effect). Good Are (asks_by x (FindsNone (LiveAt at) (Some AddressInUse) ∷ []))) (sym same)
-            (link_good Are (LiveAt at) s _ _
-            (good_ok Are _ (each (GiveAddress at ∷ OpenHere ∷ []) None _ tt
-            (λ n. none_mine queues own far S (Qs own far) one n _ (λ f. absurd cc))))
-            (λ n l found. good_err Are AddressInUse))
+        none : IsAt queues (Mine one) None (blank queues wire_segments)
+        none n = none_mine queues own far S (Qs own far) one n (blank queues wire_segments) (λ f. absurd cc)
 
         -- a called link is answered
         answered : (at n : ℕ) (phase : Phase) (l : LinkOf WireSegments) → is_early phase ≡ false → is_in Called l.port.phase ≡ true →
@@ -92,7 +86,7 @@ module _ (queues : Queues) (own far : ℕ) (S : Shown) (Qs : Links) where
             Mine one n (goes_to wire_segments queues phase (record l { port = record l.port { own = Some at } }))
         answered at n phase l late called right is =
             let x : LinkOf WireSegments = record l { port = record l.port { own = Some at } } in
-            let live = called_live l.port.phase called in
+            let live = in_live Called l.port.phase called refl in
             let went = goes_live queues phase x live in
             record {
               called = λ f c.
@@ -107,103 +101,55 @@ module _ (queues : Queues) (own far : ℕ) (S : Shown) (Qs : Links) where
                   );
             }
 
-        answer_mine : (from at : ℕ) (phase : Phase) (es : List Effect) → is_early phase ≡ false → es ≡ GiveAddress at ∷ GoTo phase ∷ [] →
-            Good Are (asks_by es (Finds (CalledBy from) (Some NoLink) ∷ FindsNone (LiveAt at) (Some AddressInUse) ∷ []))
-        answer_mine from at phase es late same =
-            subst (λ (x : List Effect). Good Are (asks_by x (Finds (CalledBy from) (Some NoLink) ∷ FindsNone (LiveAt at) (Some AddressInUse) ∷ [])))
-            (sym same)
-            (link_good Are (CalledBy from) s _ _ (good_err Are NoLink) (λ n l found.
-            let called = (and_parts (is_in Called l.port.phase) (is_at l.port.far from) found.passes).0 in
-            link_good Are (LiveAt at) s _ _
-            (good_ok Are _ (each (GiveAddress at ∷ GoTo phase ∷ []) (Some n) _ tt
-            (answered at n phase l late called (right n l found.there) (are n l found.there))))
-            (λ m x other. good_err Are AddressInUse)))
+        found_live : (at n : ℕ) (l : LinkOf WireSegments) (used : IsInUse queues s (LiveAt at) n l) → is_live used.port.phase ≡ true
+        found_live at n l used = (and_parts (is_live used.port.phase) (is_at used.port.own at) used.passes).0
 
-        close_mine : (at : ℕ) (es : List Effect) → es ≡ GoTo Disconnecting ∷ [] →
-            Good Are (asks_by es (FindsInUse (LiveAt at) NoLink ∷ InPhase is_connected LinkState ∷ []))
-        close_mine at es same =
-            subst (λ (x : List Effect). Good Are (asks_by x (FindsInUse (LiveAt at) NoLink ∷ InPhase is_connected LinkState ∷ []))) (sym same)
-            (used_good Are queues (LiveAt at) s _ _ (good_err Are NoLink) (λ n l found.
-            let live = (and_parts (is_live found.port.phase) (is_at found.port.own at) found.passes).0 in
-            good_check Are (is_connected (in_use queues l).phase) _ _ (λ e.
-            good_ok Are _ (each (GoTo Disconnecting ∷ []) (Some n) _ tt
-            (goes_mine queues own far S (Qs own far) one n Disconnecting l refl (found.used live) (are n l found.there))))))
-
-        abort_mine : (at : ℕ) (es : List Effect) → es ≡ Drop ∷ [] →
-            Good Are (asks_by es (FindsInUse (LiveAt at) NoLink ∷ InPhase is_calling LinkState ∷ []))
-        abort_mine at es same =
-            subst (λ (x : List Effect). Good Are (asks_by x (FindsInUse (LiveAt at) NoLink ∷ InPhase is_calling LinkState ∷ []))) (sym same)
-            (used_good Are queues (LiveAt at) s _ _ (good_err Are NoLink) (λ n l found.
-            let live = (and_parts (is_live found.port.phase) (is_at found.port.own at) found.passes).0 in
-            good_check Are (is_calling (in_use queues l).phase) _ _ (λ e.
-            good_ok Are _ (each (Drop ∷ []) (Some n) _ tt
-            (dropped_mine queues own far S (Qs own far) one n l (found.used live) (are n l found.there))))))
+        user_shows : (event : LinkEventValue) → Asked (user_row event)
+        user_shows (Open at) = (tt, λ n. none_mine queues own far S (Qs own far) one n _ (λ f. absurd cc))
+        user_shows (Accept from at) = (
+          tt,
+          λ n l found. (
+            tt,
+            answered at n Confirming l refl (called_by from n l s found) (right n l found.there) (are n l found.there),
+          ),
+        )
+        user_shows (Reject from at) = (
+          tt,
+          λ n l found. (
+            tt,
+            answered at n Disconnecting l refl (called_by from n l s found) (right n l found.there) (are n l found.there),
+          ),
+        )
+        user_shows (Close at) = λ n l used e. goes_mine queues own far S (Qs own far) one n Disconnecting l refl
+            (found_used queues s (LiveAt at) n l used (found_live at n l used)) (are n l used.there)
+        user_shows (Abort at) = λ n l used e. dropped_mine queues own far S (Qs own far) one n l
+            (found_used queues s (LiveAt at) n l used (found_live at n l used)) (are n l used.there)
+        user_shows event = calm (user_row event) assumption
 
         -- ---- what comes, and is no call
 
-        connect_mine : (src segsize : ℕ) (es : List Effect) → (src ≡ far → ⊥) → es ≡ Connect src segsize ∷ [] →
-            Good Are (asks_by es (FindsNone (LiveTo src) None ∷ []))
-        connect_mine src segsize es other same =
-            subst (λ (x : List Effect). Good Are (asks_by x (FindsNone (LiveTo src) None ∷ []))) (sym same)
-            (link_good Are (LiveTo src) s _ _
-            (good_ok Are _ (each (Connect src segsize ∷ []) None _ tt
-            (λ n. none_mine queues own far S (Qs own far) one n _ (λ f. let same_far : src ≡ far = cc in other same_far))))
-            (λ n l found. good_ok Are s are))
-
-        confirm_mine : (dst src segsize : ℕ) (es : List Effect) → ((dst ≡ own) × (src ≡ far) → ⊥) → es ≡ Connect src segsize ∷ GoTo Running ∷ [] →
-            Good Are (asks_by es (Finds (CallingAt dst) None ∷ ForThisLink CrossedLink ∷ []))
-        confirm_mine dst src segsize es other same =
-            subst (λ (x : List Effect). Good Are (asks_by x (Finds (CallingAt dst) None ∷ ForThisLink CrossedLink ∷ []))) (sym same)
-            (link_good Are (CallingAt dst) s _ _ (good_ok Are s are) (λ n l found.
-            let parts = and_parts (is_in Calling l.port.phase) (is_at l.port.own dst) found.passes in
-            good_check Are _ CrossedLink _ (λ e.
-            good_ok Are _ (each (Connect src segsize ∷ GoTo Running ∷ []) (Some n) _ tt (left n l parts.0 (at_is l.port.own dst parts.1))))))
-          where
-            left : (n : ℕ) (l : LinkOf WireSegments) → is_in Calling l.port.phase ≡ true → l.port.own ≡ Some dst →
-                Mine one n (goes_to wire_segments queues Running
-                (record l { port = record l.port { far = Some src }; partner = truth.tag.link; segsize = segsize }))
-            left n l calling at =
-                let x : LinkOf WireSegments = record l { port = record l.port { far = Some src }; partner = truth.tag.link; segsize = segsize } in
-                let went = goes_live queues Running x (calling_live l.port.phase calling) in
-                record {
-                  called = λ f c. let now : is_in Called Running ≡ true = sym (ap (λ (p : Phase). is_in Called p) went.0) ∙ c in absurd cc;
-                  able = λ f o.
-                      let has_far : ◌≡◌ {A = Option ℕ} (Some src) (Some far) = sym (goes_far queues Running x) ∙ f in
-                      let has_own : ◌≡◌ {A = Option ℕ} (Some dst) (Some own) = sym at ∙ (sym (goes_own queues Running x) ∙ o) in
-                      let same_far : src ≡ far = cc in
-                      let same_own : dst ≡ own = cc in
-                      absurd (other (same_own, same_far));
-                }
-
-        end_mine : (at from : ℕ) (es : List Effect) → es ≡ End ∷ [] →
-            Good Are (asks_by es (FindsEither (TheLink at from) (CallingAt at) None ∷ []))
-        end_mine at from es same =
-            subst (λ (x : List Effect). Good Are (asks_by x (FindsEither (TheLink at from) (CallingAt at) None ∷ []))) (sym same)
-            (link_good Are (TheLink at from) s _ _
-            (link_good Are (CallingAt at) s _ _ (good_ok Are s are)
-            (λ n l found. left n l found.there
-            (calling_live l.port.phase (and_parts (is_in Calling l.port.phase) (is_at l.port.own at) found.passes).0)))
-            (λ n l found. left n l found.there (and_parts (is_live l.port.phase) (has_both l.port at from) found.passes).0))
-          where
-            left : (n : ℕ) (l : LinkOf WireSegments) → slice_get s.links n ≡ Some l → is_live l.port.phase ≡ true →
-                Good Are (asked queues wire_segments rule truth s to_links (End ∷ []) [] (Some n) l tt)
-            left n l at live =
-                good_ok Are _ (each (End ∷ []) (Some n) _ tt (ended_mine queues own far S (Qs own far) one n l live (are n l at)))
+        confirmed : (dst src segsize : ℕ) → ((dst ≡ own) × (src ≡ far) → ⊥) → (n : ℕ) (l : LinkOf WireSegments) →
+            is_in Calling l.port.phase ≡ true → l.port.own ≡ Some dst →
+            Mine one n (goes_to wire_segments queues Running
+            (record l { port = record l.port { far = Some src }; partner = truth.tag.link; segsize = segsize }))
+        confirmed dst src segsize other n l calling at =
+            let x : LinkOf WireSegments = record l { port = record l.port { far = Some src }; partner = truth.tag.link; segsize = segsize } in
+            let went = goes_live queues Running x (in_live Calling l.port.phase calling refl) in
+            record {
+              called = λ f c. let now : is_in Called Running ≡ true = sym (ap (λ (p : Phase). is_in Called p) went.0) ∙ c in absurd cc;
+              able = λ f o.
+                  let has_far : ◌≡◌ {A = Option ℕ} (Some src) (Some far) = sym (goes_far queues Running x) ∙ f in
+                  let has_own : ◌≡◌ {A = Option ℕ} (Some dst) (Some own) = sym at ∙ (sym (goes_own queues Running x) ∙ o) in
+                  let same_far : src ≡ far = cc in
+                  let same_own : dst ≡ own = cc in
+                  absurd (other (same_own, same_far));
+            }
 
         -- a link in Confirming or RUN acts on it
         in_run : (n : ℕ) (l : LinkOf WireSegments) → is_connected l.port.phase ≡ true → slice_get s.links n ≡ Some l →
             Mine one n (goes_to wire_segments queues Running l)
         in_run n l connected at =
             goes_mine queues own far S (Qs own far) one n Running l refl (used_live queues l (connected_live l.port.phase connected)) (are n l at)
-
-        acts_mine : (at from : ℕ) (es : List Effect) → es ≡ GoTo Running ∷ [] →
-            Good Are (asks_by es (Finds (ActedOn at from) None ∷ OfThisPair CrossedLink ∷ []))
-        acts_mine at from es same =
-            subst (λ (x : List Effect). Good Are (asks_by x (Finds (ActedOn at from) None ∷ OfThisPair CrossedLink ∷ []))) (sym same)
-            (link_good Are (ActedOn at from) s _ _ (good_ok Are s are) (λ n l found.
-            let connected = (and_parts (is_connected l.port.phase) (has_both l.port at from) found.passes).0 in
-            good_check Are _ CrossedLink _ (λ e.
-            good_ok Are _ (each (GoTo Running ∷ []) (Some n) _ tt (in_run n l connected found.there)))))
 
         module _ (at from : ℕ) (takes : WireSegments → WireSegments)
             (fits : (f : WireSegments) → Gave (Qs at from) f → Fits S (Qs at from).word f → Fits S (Qs at from).word (takes f)) where
@@ -243,70 +189,53 @@ module _ (queues : Queues) (own far : ℕ) (S : Shown) (Qs : Links) where
                         (subst (λ (y : ℕ). Fits S (Qs y far).word x.segments) (sym same_own) (fit was.1)))))),
                   )
 
-          take_mine : (effect : Effect) (es : List Effect) → es ≡ GoTo Running ∷ effect ∷ [] →
-              ((l : LinkOf WireSegments) → does queues wire_segments truth l effect ≡ with_segments (takes l.segments) l) →
-              ((n : ℕ) (l : LinkOf WireSegments) → Mine one n l → Are (to_links (GoTo Running ∷ effect ∷ []) (Some n) l tt)) →
-              Good Are (asks_by es (Finds (ActedOn at from) None ∷ OfThisPair CrossedLink ∷ []))
-          take_mine effect es same made left =
-              subst (λ (x : List Effect). Good Are (asks_by x (Finds (ActedOn at from) None ∷ OfThisPair CrossedLink ∷ []))) (sym same)
-              (link_good Are (ActedOn at from) s _ _ (good_ok Are s are) (λ n l found.
-              let parts = and_parts (is_connected l.port.phase) (has_both l.port at from) found.passes in
-              let both = and_parts (is_at l.port.own at) (is_at l.port.far from) parts.1 in
-              good_check Are _ CrossedLink _ (λ e.
-              good_ok Are _ (left n _ (subst (Mine one n) (sym (made (goes_to wire_segments queues Running l)))
-              (taken n l parts.0 (at_is l.port.own at both.0) (at_is l.port.far from both.1) found.there))))))
+        ended : (at from n : ℕ) (l : LinkOf WireSegments) → Found s (TheLink at from) n l ⊎ Found s (CallingAt at) n l →
+            IsMine queues own far S (Qs own far) one n (ends_by_message wire_segments queues l)
+        ended at from n l found =
+            ended_mine queues own far S (Qs own far) one n l (ends_live at n l s from found)
+            (are n l (either_there s (TheLink at from) (CallingAt at) n l found))
 
-      -- ---- all that may happen
-
-      calm : (event : LinkEventValue) → IsPlainRow (user_row event) → Good Are (wire_links_user queues s event)
-      calm event is =
-          plain_row queues (Mine one) (stays queues own far S (Qs own far) one) s are (λ test. test) (of_none queues wire_segments) to_links
-          (user_row event) Are is each
+        message_shows : (m : NspValue) → IsInRange m → HasCome Qs m → (IsCall own far m → ⊥) → Asked (arrival_row m)
+        message_shows (DataSegment segment) small came other = (
+          none,
+          λ n l found.
+              let acts = acted_on segment.dstaddr segment.srcaddr n l s found in
+              taken segment.dstaddr segment.srcaddr (takes_segment segment tt)
+              (λ f gave is. segment_fits S (Qs segment.dstaddr segment.srcaddr) segment f small.0 came gave is) n l acts.0 acts.1.0 acts.1.1
+              found.there,
+        )
+        message_shows (DataAck dst src acks) small came other = (
+          none,
+          λ n l found.
+              let acts = acted_on dst src n l s found in
+              taken dst src (takes_acks acks tt) (λ f gave is. acks_fit S (Qs dst src) acks f small.0 came gave is) n l acts.0 acts.1.0 acts.1.1
+              found.there,
+        )
+        message_shows (LinkService interrupt dst src rest) small came other =
+            (none, λ n l found. in_run n l (acted_on dst src n l s found).0 found.there)
+        message_shows (OtherDataAck dst src rest) small came other =
+            (none, λ n l found. in_run n l (acted_on dst src n l s found).0 found.there)
+        message_shows (ConnectInitiate retransmitted src services info segsize user_data) small came other = (
+          none,
+          λ n.
+              none_mine queues own far S (Qs own far) one n _ (λ f. let same_far : src ≡ far = cc in other same_far),
+        )
+        message_shows (ConnectConfirm dst src services info segsize user_data) small came other = (
+          none,
+          λ n l found.
+              let calling = calling_at dst n l s found in confirmed dst src segsize other n l calling.0 calling.1,
+        )
+        message_shows (DisconnectInitiate dst src reason user_data) small came other = (none, ended dst src)
+        message_shows (DisconnectConfirm dst src reason) small came other = (none, ended dst src)
+        message_shows m small came other = calm (arrival_row m) assumption
 
       pub user_mine : (event : LinkEventValue) → Good Are (wire_links_user queues s event)
-      user_mine (Open at) = open_mine (λ test. test) (of_none queues wire_segments) at _ (kept_open queues at)
-      user_mine (Accept from at) =
-          answer_mine (λ test. test) (of_none queues wire_segments) from at Confirming _ refl (kept_answer queues at Confirming)
-      user_mine (Reject from at) =
-          answer_mine (λ test. test) (of_none queues wire_segments) from at Disconnecting _ refl (kept_answer queues at Disconnecting)
-      user_mine (In at message) = calm (In at message) ((tt, tt), (tt, (tt, tt)))
-      user_mine (Up at message) = calm (Up at message) ((tt, tt), (tt, (tt, tt)))
-      user_mine (Close at) = close_mine (λ test. test) (of_none queues wire_segments) at _ (kept_close queues Disconnecting)
-      user_mine (Abort at) = abort_mine (λ test. test) (of_none queues wire_segments) at _ (kept_drop queues)
-      user_mine Boot = calm Boot ((tt, tt), tt)
-
-      module _ (rule : PartnerRule) (tag : LinkTag) where
-        abbrev truth : LinkTruth (Unit {0})
-        truth = record { tag = tag; known = tt }
-
-        comes_calm : (m : NspValue) → IsPlainRow (arrival_row m) →
-            Good Are (by_row queues wire_segments rule truth s to_links (arrival_row m))
-        comes_calm m plain =
-            plain_row queues (Mine one) (stays queues own far S (Qs own far) one) s are rule truth to_links (arrival_row m) Are plain each
-
-        message_mine : (m : NspValue) → IsInRange m → HasCome Qs m → (IsCall own far m → ⊥) →
-            Good Are (by_row queues wire_segments rule truth s to_links (arrival_row m))
-        message_mine (DataSegment segment) small came other =
-            take_mine rule truth segment.dstaddr segment.srcaddr (takes_segment segment tt)
-            (λ f gave is. segment_fits S (Qs segment.dstaddr segment.srcaddr) segment f small.0 came gave is) (TakeSegment segment) _
-            (kept_run queues (TakeSegment segment) (kept_segment queues segment)) (λ l. refl)
-            (λ n l is. each (GoTo Running ∷ TakeSegment segment ∷ []) (Some n) l tt is)
-        message_mine (DataAck dst src acks) small came other =
-            take_mine rule truth dst src (takes_acks acks tt) (λ f gave is. acks_fit S (Qs dst src) acks f small.0 came gave is) (TakeAcks acks) _
-            (kept_run queues (TakeAcks acks) (kept_acks queues acks)) (λ l. refl)
-            (λ n l is. each (GoTo Running ∷ TakeAcks acks ∷ []) (Some n) l tt is)
-        message_mine (LinkService interrupt dst src rest) small came other = acts_mine rule truth dst src _ (kept_close queues Running)
-        message_mine (OtherDataAck dst src rest) small came other = acts_mine rule truth dst src _ (kept_close queues Running)
-        message_mine (ConnectAck dst) small came other = comes_calm (ConnectAck dst) (tt, tt)
-        message_mine (NoOperation rest) small came other = comes_calm (NoOperation rest) (tt, tt)
-        message_mine (ConnectInitiate retransmitted src services info segsize user_data) small came other =
-            connect_mine rule truth src segsize _ other (kept_connect queues src segsize)
-        message_mine (ConnectConfirm dst src services info segsize user_data) small came other =
-            confirm_mine rule truth dst src segsize _ other (kept_confirm queues src segsize)
-        message_mine (DisconnectInitiate dst src reason user_data) small came other = end_mine rule truth dst src _ (kept_end queues)
-        message_mine (DisconnectConfirm dst src reason) small came other = end_mine rule truth dst src _ (kept_end queues)
+      user_mine event =
+          user_kept queues s (IsAt queues (Mine one)) Are (all_keep queues (Mine one) (stays queues own far S (Qs own far) one) s are) event
+          (user_shows (of_none queues wire_segments) event)
 
       pub other_arrived : (rule : PartnerRule) (packet : Carried) (tag : LinkTag) → IsInRange packet.message → HasCome Qs packet.message →
           (IsCall own far packet.message → ⊥) → Good Are (wire_links_arrived queues rule s packet tag)
       other_arrived rule packet tag small came other =
-          good_check Are (eqb packet.src s.peer && eqb packet.dst s.node) WrongNode _ (λ e. message_mine rule tag packet.message small came other)
+          arrived_kept queues s (IsAt queues (Mine one)) Are (all_keep queues (Mine one) (stays queues own far S (Qs own far) one) s are) rule packet
+          tag (message_shows (record { tag = tag; known = tt }) packet.message small came other)

@@ -11,13 +11,16 @@ use Rattle.dna_packet.specs.declared.ack_word.AckWord.{AckWord}
 use Rattle.dna_packet.specs.Nsp.{SegmentValue}
 use Rattle.dna_station.specs.declared.link_refusal.LinkRefusal.{LinkRefusal}
 use Rattle.dna_station.specs.declared.link_refusal.LinkRefusal.TheVariants.{WrongSegment, WrongAck, SegmentTooLong, LinkWindowFull}
+use Rattle.dna_links.specs.Links.{LinkOf}
 use Rattle.dna_links.specs.Segmentation.{Piece, piece_of, alike, same_piece, Unsent, is_next_of, is_next_piece, left_of, without_piece}
 use Rattle.dna_links.specs.SegmentBook.{Sending, Late, with_gap, wider, REACH, wire, distance}
 use Rattle.dna_links.specs.WireSegments.{WireSegments, LastSent, LateSent, last_of, all_named, with_last, sending, with_new, sends_new, is_given}
 use Rattle.dna_links.specs.WireSegments.{is_repeat, sends_again, is_new, segment_named, sends_segment, all_named_late, went_on, new_late, sends_late}
 use Rattle.dna_links.specs.WireSegments.{highest_given, acks_named, sends_acks}
 use Rattle.accusing_links.proofs.Answered.{Good, good_ok, good_err, good_check}
+use Rattle.accusing_links.proofs.Along.{SentBy, AtOnce, Waited}
 use Rattle.accusing_segments.specs.Wrong.{before}
+use Rattle.accusing_segments.proofs.Places.{pushed_place}
 use Rattle.accusing_segments.proofs.Gave.{Passings, More, Follows, follows_more, Gave, gave_more}
 
 -- why a segment may be sent
@@ -75,18 +78,6 @@ begun_after p begun (rest ∷ later) e =
     by_end true u v e g = e
     by_end false u v e g = g
 
-pushed_at : {X : Type 0} (xs : List X) (x : X) (i : ℕ) (y : X) → slice_get (xs ++ x ∷ []) i ≡ Some y →
-    (slice_get xs i ≡ Some y) ⊎ ((i ≡ length xs) × (x ≡ y))
-pushed_at [] x zero y e = inr (refl, cc)
-pushed_at [] x (suc i) y e = absurd cc
-pushed_at (first ∷ xs) x zero y e = inl e
-pushed_at (first ∷ xs) x (suc i) y e = next (pushed_at xs x i y e)
-  where
-    next : (slice_get xs i ≡ Some y) ⊎ ((i ≡ length xs) × (x ≡ y)) →
-        (slice_get (first ∷ xs) (suc i) ≡ Some y) ⊎ ((suc i ≡ length (first ∷ xs)) × (x ≡ y))
-    next (inl there) = inl there
-    next (inr last) = inr (ap suc last.0, last.1)
-
 module _ (Q R : Passings) (more : More Q R) (f : WireSegments) (is : Gave Q f) (s : SegmentValue) (small : s.number < 4096) (gone : Gone R s) where
   abbrev highest : ℕ
   highest = is.acked + length f.variables.outstanding
@@ -137,7 +128,7 @@ module _ (Q R : Passings) (more : More Q R) (f : WireSegments) (is : Gave Q f) (
 
     new_each : (i : ℕ) (p : Piece) → slice_get (f.variables.outstanding ++ piece_of s ∷ []) i ≡ Some p →
         Follows R (is.acked + i) p.begins × R.room (length p.body)
-    new_each i p e = go (pushed_at f.variables.outstanding (piece_of s) i p e)
+    new_each i p e = go (pushed_place f.variables.outstanding (piece_of s) i p e)
       where
         go : (slice_get f.variables.outstanding i ≡ Some p) ⊎ ((i ≡ length f.variables.outstanding) × (piece_of s ≡ p)) →
             Follows R (is.acked + i) p.begins × R.room (length p.body)
@@ -252,7 +243,7 @@ module _ (Q R : Passings) (more : More Q R) (f : WireSegments) (is : Gave Q f) (
       go true new = new_good segsize last fits new
       go false old = again_good last
 
-  pub sends_segment_good : (segsize : ℕ) → HasRoom segsize → Good IsSent (sends_segment segsize s f)
+  sends_segment_good : (segsize : ℕ) → HasRoom segsize → Good IsSent (sends_segment segsize s f)
   sends_segment_good segsize fits = named_good segsize (all_named (not (is_new s f.variables)) f.variables.received s.acks (last_of f)) fits
 
   abbrev pub IsLate : Late WireSegments (Unit {0}) → Type 0
@@ -268,7 +259,7 @@ module _ (Q R : Passings) (more : More Q R) (f : WireSegments) (is : Gave Q f) (
   late_good segsize (Some next) fits new =
       gap_good (λ sent. next.gap) (sends_new segsize (piece_of s) next.sent f) (new_good segsize next.sent fits new)
 
-  pub sends_late_good : (gap segsize : ℕ) → HasRoom segsize → Good IsLate (sends_late gap segsize s f)
+  sends_late_good : (gap segsize : ℕ) → HasRoom segsize → Good IsLate (sends_late gap segsize s f)
   sends_late_good gap segsize fits = go (is_new s f.variables) refl
     where
       go : (b : Bool) → is_new s f.variables ≡ b →
@@ -277,6 +268,13 @@ module _ (Q R : Passings) (more : More Q R) (f : WireSegments) (is : Gave Q f) (
           (with_gap (λ sent. wider gap (went_on f sent.segments)) (sends_segment segsize s f)))
       go true new = late_good segsize (all_named_late f.variables.received s.acks (record { sent = last_of f; gap = gap })) fits new
       go false old = gap_good (λ sent. wider gap (went_on f sent.segments)) (sends_segment segsize s f) (sends_segment_good segsize fits)
+
+-- what is left where a segment is sent, and why it may be
+module _ (Q R : Passings) (more : More Q R) (s : SegmentValue) (small : s.number < 4096) (gone : Gone R s) where
+  pub sent_left : (l : LinkOf WireSegments) (f : WireSegments) → Gave Q l.segments → ((n : ℕ) → n ≤ l.segsize → Q.room n) → SentBy s l f →
+      IsFine Q s × Gave R f
+  sent_left l f is fits (AtOnce made e) = sends_segment_good Q R more l.segments is s small gone l.segsize fits made e
+  sent_left l f is fits (Waited made e) = sends_late_good Q R more l.segments is s small gone l.queue.gap l.segsize fits made e
 
 -- acknowledgement words give no segment
 pub acks_sent : (Q : Passings) (words : List AckWord) (f : WireSegments) → Gave Q f →

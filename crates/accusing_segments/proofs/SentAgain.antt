@@ -7,12 +7,14 @@ use Rattle.std.proofs.lemmas.Bool.{and_parts, leb-true, leb-false}
 use Rattle.dna_packet.specs.Nsp.{SegmentValue}
 use Rattle.dna_station.specs.declared.link_refusal.LinkRefusal.{LinkRefusal}
 use Rattle.dna_station.specs.declared.link_refusal.LinkRefusal.TheVariants.{WrongSegment, WrongAck, SegmentTooLong, LinkWindowFull}
+use Rattle.dna_links.specs.Links.{LinkOf}
 use Rattle.dna_links.specs.Segmentation.{Piece, piece_of, is_next_piece}
 use Rattle.dna_links.specs.SegmentBook.{Sending, Late, with_gap, wider, REACH, wire, distance}
 use Rattle.dna_links.specs.WireSegments.{WireSegments, LastSent, LateSent, last_of, all_named, with_last, sending, with_new, sends_new}
 use Rattle.dna_links.specs.WireSegments.{is_given, is_repeat, sends_again, is_new, segment_named, sends_segment, all_named_late, went_on, new_late}
 use Rattle.dna_links.specs.WireSegments.{sends_late, highest_given}
 use Rattle.accusing_links.proofs.Answered.{Good, good_ok, good_err, good_check}
+use Rattle.accusing_links.proofs.Along.{SentBy, AtOnce, Waited}
 use Rattle.accusing_segments.proofs.Gave.{Passings, same_more, Gave}
 use Rattle.accusing_segments.proofs.SegmentSends.{Gone, same_is, near, within, stands}
 use Rattle.accusing_segments.proofs.SentPieces.{Covered, Shown, IsOut, Fits, at_less, at_more, at_end, at_same}
@@ -172,10 +174,10 @@ module _ (S T : Shown) (Q : Passings) (f : WireSegments) (gave : Gave Q f) (is :
       go true new = new_good segsize last new
       go false old = again_good last
 
-  pub segment_kept : (segsize : ℕ) → Good IsKept (sends_segment segsize s f)
+  segment_kept : (segsize : ℕ) → Good IsKept (sends_segment segsize s f)
   segment_kept segsize = named_good segsize (all_named (not (is_new s f.variables)) f.variables.received s.acks (last_of f))
 
-  abbrev pub IsLateKept : Late WireSegments (Unit {0}) → Type 0
+  abbrev IsLateKept : Late WireSegments (Unit {0}) → Type 0
   IsLateKept late = IsKept late.sent
 
   gap_kept : (gap : Sending WireSegments (Unit {0}) → ℕ) (r : Result (Sending WireSegments (Unit {0})) LinkRefusal) →
@@ -188,7 +190,7 @@ module _ (S T : Shown) (Q : Passings) (f : WireSegments) (gave : Gave Q f) (is :
   new_late_kept segsize (Some next) new =
       gap_kept (λ sent. next.gap) (sends_new segsize (piece_of s) next.sent f) (new_good segsize next.sent new)
 
-  pub late_kept : (gap segsize : ℕ) → Good IsLateKept (sends_late gap segsize s f)
+  late_kept : (gap segsize : ℕ) → Good IsLateKept (sends_late gap segsize s f)
   late_kept gap segsize = go (is_new s f.variables) refl
     where
       go : (b : Bool) → is_new s f.variables ≡ b →
@@ -197,3 +199,11 @@ module _ (S T : Shown) (Q : Passings) (f : WireSegments) (gave : Gave Q f) (is :
           (with_gap (λ sent. wider gap (went_on f sent.segments)) (sends_segment segsize s f)))
       go true new = new_late_kept segsize (all_named_late f.variables.received s.acks (record { sent = last_of f; gap = gap })) new
       go false old = gap_kept (λ sent. wider gap (went_on f sent.segments)) (sends_segment segsize s f) (segment_kept segsize)
+
+-- what is left where it is sent
+module _ (S T : Shown) (Q : Passings) (s : SegmentValue) (small : s.number < 4096) (gone : Gone Q s)
+    (grows : (n : ℕ) (p : Piece) → T n p → S n p ⊎ ((n ≡ s.number) × (p ≡ piece_of s))) where
+  pub sent_kept : (l : LinkOf WireSegments) (f : WireSegments) (gave : Gave Q l.segments) (is : Fits S Q.word l.segments) → SentBy s l f →
+      Fits T Q.word f × Agrees S T Q l.segments gave is s small gone grows
+  sent_kept l f gave is (AtOnce made e) = segment_kept S T Q l.segments gave is s small gone grows l.segsize made e
+  sent_kept l f gave is (Waited made e) = late_kept S T Q l.segments gave is s small gone grows l.queue.gap l.segsize made e
