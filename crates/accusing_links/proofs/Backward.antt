@@ -45,7 +45,8 @@ use Rattle.accusing_links.proofs.Onwards.{Q, said, Gone}
 use Rattle.accusing_links.specs.Answers.{IsWrong}
 use Rattle.accusing_links.specs.Back.{is_back_in, is_back_unit}
 use Rattle.accusing_links.proofs.Shown.{shown_call}
-use Rattle.accusing_links.proofs.NoneBack.{State, Claim, other_state, sent_state}
+use Rattle.accusing_links.proofs.NoneBack.{State, other_state, sent_state}
+use Rattle.accusing_links.proofs.Claims.{Claim}
 
 same_message : {K : Type 0} (m n : MessageValue) (tag known : K) →
     ◌≡◌ {A = arrival.ArrivalValue K} (arrival.Sound m tag) (arrival.Sound n known) → m ≡ n
@@ -234,7 +235,7 @@ module _ (queues : Queues) (head : Head) (own far : ℕ) where
   abbrev AllClaims : List Passed → List Passed → Type 0
   AllClaims before [] = Unit {0}
   AllClaims before (Own unit ∷ passed) =
-      ((m : MessageValue) → reading unit ≡ Sound m → Claim queues head own far before m) × AllClaims (before ++ Own unit ∷ []) passed
+      ((m : MessageValue) → reading unit ≡ Sound m → Claim queues own far before m) × AllClaims (before ++ Own unit ∷ []) passed
   AllClaims before (Other unit ∷ passed) = AllClaims (before ++ Other unit ∷ []) passed
 
   one_reading : (m n : MessageValue) (r : ReadingValue) → r ≡ Sound m → r ≡ Sound n → m ≡ n
@@ -250,7 +251,7 @@ module _ (queues : Queues) (head : Head) (own far : ℕ) where
       let right = (sends_right queues (Is queues head before) (Fine queues head before) (Comes queues head before) (kept queues head before) s after m
       known made is.right).0 in
       let all = sent_state queues head own far before unit s coming is m read after (is_sent queues s m after known made) right in (
-        λ n also. subst (Claim queues head own far before) (one_reading m n (reading unit) read also) all.0,
+        λ n also. subst (Claim queues own far before) (one_reading m n (reading unit) read also) all.0,
         all_claims later names (before ++ Own unit ∷ []) all.1,
       )
   all_claims (Hears {s = s} {coming = coming} lost unit rest are hint hinted bytes byte how tag fate after made later) names before is =
@@ -281,18 +282,18 @@ module _ (queues : Queues) (head : Head) (own far : ℕ) where
   }
 
   one_claim : (start before : List Passed) (unit : List ℕ) (later : List Passed) → AllClaims start (before ++ Own unit ∷ later) → (m : MessageValue) →
-      reading unit ≡ Sound m → Claim queues head own far (start ++ before) m
+      reading unit ≡ Sound m → Claim queues own far (start ++ before) m
   one_claim start [] unit later all m read =
-      subst (λ (x : List Passed). Claim queues head own far x m) (sym (append-nil start)) (all.0 m read)
+      subst (λ (x : List Passed). Claim queues own far x m) (sym (append-nil start)) (all.0 m read)
   one_claim start (Own first ∷ before) unit later all m read =
-      subst (λ (x : List Passed). Claim queues head own far x m) (append_assoc start (Own first ∷ []) before)
+      subst (λ (x : List Passed). Claim queues own far x m) (append_assoc start (Own first ∷ []) before)
       (one_claim (start ++ Own first ∷ []) before unit later all.1 m read)
   one_claim start (Other first ∷ before) unit later all m read =
-      subst (λ (x : List Passed). Claim queues head own far x m) (append_assoc start (Other first ∷ []) before)
+      subst (λ (x : List Passed). Claim queues own far x m) (append_assoc start (Other first ∷ []) before)
       (one_claim (start ++ Other first ∷ []) before unit later all m read)
 
   claim_of : (before later : List Passed) (unit : List ℕ) (records : List Record) (m : MessageValue) → reading unit ≡ Sound m →
-      IsNodePlacing queues head (before ++ Own unit ∷ later) records → Claim queues head own far before m
+      IsNodePlacing queues head (before ++ Own unit ∷ later) records → Claim queues own far before m
   claim_of before later unit records m read placing = one_claim [] before unit later (all_claims placing.0 placing.1 [] first_state) m read
 
 -- ---- what goes back

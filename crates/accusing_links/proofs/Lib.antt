@@ -48,6 +48,7 @@ pub mod Numbered
 pub mod Phases
 pub mod Onwards
 pub mod Shown
+pub mod Claims
 pub mod NoneBack
 pub mod Backward
 pub mod Saying
