@@ -50,6 +50,7 @@ pub mod Onwards
 pub mod Shown
 pub mod Claims
 pub mod NoneBack
+pub mod PlacedClaims
 pub mod Backward
 pub mod Saying
 pub mod Telling
