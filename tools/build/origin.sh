@@ -100,6 +100,16 @@ link_assembly() {
 # Makes a program of dist/ for a machine: MACHINE PROGRAM [COMPILER..]
 link_program() { (set -o pipefail; assembly "$1" | link_assembly "${@:2}"); }
 
+# Makes a library of dist/ for a machine, by which tools/tests/called.py calls the program: MACHINE LIBRARY [COMPILER..]
+link_called() {
+  local library=$2 status
+  (set -o pipefail; assembly "$1" | outer_object "$library.o" "${@:3}") &&
+    "${@:3}" -O2 -shared -fPIC -fvisibility=hidden -o "$library" "$library.o" "$top"/{lib/texts,dist/memory,tools/tests/called}.c -Wl,--gc-sections
+  status=$?
+  rm -f "$library.o"
+  return "$status"
+}
+
 # Whether the assembly for a machine was made of a module before; that assembly, which is made where it was not: MACHINE MODULE
 has_made() { [ -f "$top/out/$1.s" ] && [ "$(cat "$top/out/$1.of" 2> /dev/null)" = "$(sum_of_making "$2")" ]; }
 of_module() {

@@ -3,7 +3,6 @@
 accused and of the recorder. Run as a program it writes the answers of the list anew, for the same captures, so that a change of words shows as a
 difference."""
 import os
-import subprocess
 import sys
 import tempfile
 from collections import namedtuple
@@ -13,7 +12,7 @@ sys.dont_write_bytecode = True  # leaves no file beside the modules
 sys.path.insert(0, os.path.dirname(os.path.dirname(os.path.realpath(__file__))))
 from lists.pair_lists import lines_below
 from lists.pairs import capture_of
-from tests.program import PROGRAM, TOP
+from tests.program import TOP, run
 
 WHY = os.path.join(TOP, 'tools', 'lists', 'why')
 LIST = os.path.join(WHY, 'answers.txt')
@@ -56,7 +55,7 @@ def answer_to(texts, words):
         for letter, text in zip('ab', texts):
             with open(os.path.join(folder, letter), 'w') as capture:
                 capture.write(text)
-        return subprocess.run([PROGRAM, *words], cwd=folder, stdin=subprocess.DEVNULL, capture_output=True, text=True).stdout
+        return run(*words, cwd=folder)[0]
 
 
 def rows_of(answer, order):

@@ -4,7 +4,6 @@ tools/lists/why, of the wire texts in tools/lists/tap, of examples/, and of what
 import glob
 import os
 import random
-import subprocess
 import tempfile
 from collections import namedtuple
 from concurrent.futures import ThreadPoolExecutor
@@ -12,7 +11,7 @@ from concurrent.futures import ThreadPoolExecutor
 from lists.pair_lists import lines_below
 from lists.pairs import capture_of
 from lists.rows import HEAD, rows_of
-from tests.program import PROGRAM, TOP
+from tests.program import SEED, TOP, started
 
 Case = namedtuple('Case', 'name words texts status out err made')
 # The lists, with what `check` is asked besides.
@@ -34,10 +33,10 @@ def bytes_of(path):
 
 
 def pairs_of(name, most):
-    """At most so many pairs of a list, drawn by chance that is the same each time: their names, and both texts."""
+    """At most so many pairs of a list, drawn by chance, the same each time for one seed: their names, and both texts."""
     below = lines_below(name)
     lines = [line for heading in below for line in below[heading] if line.pair]
-    random.Random(name).shuffle(lines)
+    random.Random(name + SEED).shuffle(lines)
     return [(line.place, [capture_of(side, records).encode() for side, records in zip('ab', line.pair)]) for line in lines[:most]]
 
 
@@ -65,7 +64,7 @@ def asked_of_scripts(most):
     """What is asked of the player's rows, of examples/ and of the wire texts."""
     set_ups, rows = rows_of()
     rows = list(set_ups.values()) + rows
-    random.Random('rows').shuffle(rows)
+    random.Random('rows' + SEED).shuffle(rows)
     for row in rows[:most]:
         yield row.name, ['play', 'script', 'a', 'b'], {'script': (HEAD + ''.join(step + '\n' for step in row.steps())).encode()}
     for path in sorted(glob.glob(os.path.join(TOP, 'examples', '*')) + glob.glob(os.path.join(TOP, 'tools', 'lists', 'tap', '*.wire'))[:most]):
@@ -103,14 +102,14 @@ def answered(asked):
         for text, content in texts.items():
             with open(os.path.join(folder, text), 'wb') as file:
                 file.write(content)
-        done = subprocess.run([PROGRAM, *words], cwd=folder, stdin=subprocess.DEVNULL, capture_output=True)
+        out, err, status = started(words, cwd=folder)
         made = {}
         for text in sorted(os.listdir(folder)):
             with open(os.path.join(folder, text), 'rb') as file:
                 content = file.read()
             if texts.get(text) != content:
                 made[text] = content
-    return Case(name, words, texts, done.returncode, done.stdout, done.stderr, made)
+    return Case(name, words, texts, status, out, err, made)
 
 
 def all_cases(most):

@@ -4,15 +4,14 @@ do nothing wrong and are refused (tools/tests/nodes/small_right_nodes.py)."""
 import os
 import random
 import re
-import subprocess
-import sys
 import tempfile
 
 from tests.nodes import small_right_nodes as right
 from tests.nodes.bugs import NO_BUGS
 from tests.nodes.small_node import Node
 from tests.nodes.small_sessions import Stuck
-from tests.program import TOP, share
+from tests.passed import wire_text
+from tests.program import IS_QUICK, TOP, share
 from tests.tap_texts import ANSWERS, STRT, UP, data_of, packet_of, scripts, text_of
 from tests.tap_words import AT_FAULT, BOTH, BROKEN, DISCARDED, NOBODY, at_fault, discarded, fault_of_answer, unexplained, unless
 
@@ -186,7 +185,7 @@ def right_wires(tap):
             text.write(script)
         tap.run('play', tap.wire, tap.a, tap.b)
         if tap.check()[2] == 0:
-            yield name, subprocess.run([os.path.join(TOP, 'tools', 'wire_of'), tap.a, tap.b], capture_output=True, text=True).stdout
+            yield name, wire_text(tap.a, tap.b)
 
 
 def bare(digits):
@@ -215,7 +214,7 @@ def faults_of_cuts(tap, cuts):
     """For each of so many recordings that begin at a byte of a right line, or have a hole that cuts a unit in two, how somebody is accused, or
     None."""
     texts, seen = list(right_wires(tap)), set()
-    for seed in share(range(cuts)):
+    for seed in share(range(cuts), 3):
         chance = random.Random('cut %d' % seed)
         # the pieces of what a script plays are units
         name, text = chance.choice([each for each in texts if seed % 2 or each[0].endswith('.script')])
@@ -258,14 +257,14 @@ def wire_of_session(bug, sides, seed):
         for path, node in zip(paths, nodes.values()):
             with open(path, 'w', encoding='ascii') as capture:
                 capture.write('\n'.join(node.lines) + '\n')
-        return subprocess.run([sys.executable, os.path.join(TOP, 'tools', 'wire_of'), *paths], capture_output=True, text=True).stdout
+        return wire_text(*paths)
 
 
 def faults_of_right_nodes(tap):
     """For each session of such a node how somebody is accused without its exception, or None."""
     excused = set()
     for bug in NO_BUGS:
-        for seed, sides in share([(seed, sides) for seed in range(SEEDS) for sides in ('a', 'b', 'ab')]):
+        for seed, sides in share([(seed, sides) for seed in range(SEEDS) for sides in ('a', 'b', 'ab')], 3):
             out, err, status = tap.tap(wire_of_session(bug, sides, seed))
             wanted = EXCUSED.get(bug.node)
             accused = [(side, words) for side, _, _, words in AT_FAULT.findall(out)]
@@ -275,4 +274,4 @@ def faults_of_right_nodes(tap):
             fine = status in (0, 1) and is_right and may_discard
             yield None if fine else '%s (%s) at %s, %d: printed %r %r' % (bug.node.__name__, bug.words, sides, seed, out, err)
     names = sorted(each.__name__ for each in excused)
-    yield None if excused >= {right.GivesUp, right.AcknowledgesLate} else 'accused with an exception are %s' % names
+    yield None if IS_QUICK or excused >= {right.GivesUp, right.AcknowledgesLate} else 'accused with an exception are %s' % names

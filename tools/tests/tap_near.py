@@ -1,13 +1,12 @@
 """What passes between two nodes that boot and give calls up (tools/tests/nodes/near_nodes.py), as a source of chance says, for
 `tools/tests/test_tap`."""
-import os
 import random
-import subprocess
 
 from tests.nodes import small_sessions as at
 from tests.nodes.near_nodes import NearNode
 from tests.nodes.small_node import BEGINS, DATA_ACK, ENDS
-from tests.program import TOP, share
+from tests.passed import wire_text
+from tests.program import share
 
 # what a node does in the place of hearing and sending, and how often: without boots and aborts, and these
 PLAIN = (('talks', 12), ('opens', 8), ('closes', 3), ('says_hello', 3), ('restart', 1.5), ('link_timer', 5), ('wait', 6))
@@ -62,8 +61,7 @@ def fault_of_near(tap, texts):
             capture.write(text)
     if tap.check()[2]:
         return None, False
-    wire = subprocess.run([os.path.join(TOP, 'tools', 'wire_of'), tap.a, tap.b], capture_output=True, text=True).stdout
-    out, err, status = tap.tap(wire)
+    out, err, status = tap.tap(wire_text(tap.a, tap.b))
     if status or not out.startswith('accepted\n') or tap.check()[2]:
         return 'printed %r %r' % (out[:80], err), True
     if 'this assumes a boot ' in out and 'u boot' not in ''.join(texts):
@@ -75,7 +73,7 @@ def faults_of_near(tap, sessions):
     """For each of so many sessions with boots and aborts, and of a third as many without them, what is wrong, or None. Most are such that `check`
     accepts them."""
     right = 0
-    seeds = share([(seed, PLAIN + NEAR) for seed in range(sessions)] + [(seed, PLAIN) for seed in range(sessions // 3)])
+    seeds = share([(seed, PLAIN + NEAR) for seed in range(sessions)] + [(seed, PLAIN) for seed in range(sessions // 3)], 3)
     for seed, deeds in seeds:
         fault, is_right = fault_of_near(tap, session(seed, deeds))
         right += is_right

@@ -2,11 +2,11 @@
 and what passed in the pairs that scripts of examples/ and the rows of tools/lists/rows.txt play."""
 import glob
 import os
-import subprocess
 
 from captures import ack_of, changed, nak_of, with_check
 from lists.rows import HEAD, rows_of
-from tests.program import TOP, share
+from tests.passed import wire_text
+from tests.program import TOP, share, started
 from tests.tap_words import APART, NOBODY, at_fault, discarded, fault_of_answer, unexplained
 
 STRT, STACK, MAINTENANCE = '0506c00000017595', '0507c00000014855', '9002c00000019950080007c0'
@@ -238,8 +238,9 @@ def seconds_of(tap, units):
     """The processor time in which these units are accepted, or None: the least of three times."""
     text, times = text_of(units), []
     for _ in range(3):
+        tap.put(text)
         before = os.times().children_user
-        if not tap.tap(text)[0].startswith('accepted\n'):
+        if not started(['tap', tap.wire, tap.a, tap.b])[0].startswith(b'accepted\n'):
             return None
         times.append(os.times().children_user - before)
     return min(times)
@@ -273,7 +274,7 @@ def is_without_restart(script):
 
 def faults_of_scripts(tap):
     """For each script without a restart that plays a run, how what passed in it is not accepted, or None."""
-    for name, script in share(scripts()):
+    for name, script in share(scripts(), 3):
         if not is_without_restart(script):
             continue
         with open(tap.wire, 'w', encoding='ascii') as text:
@@ -281,7 +282,6 @@ def faults_of_scripts(tap):
         tap.run('play', tap.wire, tap.a, tap.b)
         if tap.check()[2]:
             continue
-        made = subprocess.run([os.path.join(TOP, 'tools', 'wire_of'), tap.a, tap.b], capture_output=True, text=True)
-        printed = tap.tap(made.stdout)
+        printed = tap.tap(wire_text(tap.a, tap.b))
         is_right = printed[0].startswith('accepted\n') or printed == ('', NO_UNIT, 2)
         yield None if is_right else 'what %s plays: printed %r' % (name, printed)

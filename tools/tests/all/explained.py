@@ -10,7 +10,8 @@ from reading.groups import Grouping
 from reading.ladder import drawn
 from reading.less import ROWS as LESS
 from reading.why import accused, link_of, named_by, queued_link_of, record_of, run_sides, side_rows, state_of
-from tests.all.told import are_short, goes_on, listing_of, run, texts_read, told_in, ways_of
+from tests.all.told import are_short, goes_on, listing_of, texts_read, told_in, ways_of
+from tests.program import run
 
 LADDER = 10  # rows, before the refused record's own
 PARTS = 6  # of an explanation: the verdict, the record, the check, the sides, the ladder, who is accused

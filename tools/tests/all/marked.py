@@ -5,7 +5,8 @@ import re
 import xml.etree.ElementTree as xml
 
 from reading.marked import drawn_all, refusals_of, rows_of_all
-from tests.all.told import goes_on, listing_of, run, texts_read, ways_of
+from tests.all.told import goes_on, listing_of, texts_read, ways_of
+from tests.program import run
 
 SVG = '{http://www.w3.org/2000/svg}'
 MARK = re.compile(r'  <== refused ([ab]: \d+ \w+)(?: (b: \d+ \w+))?$')

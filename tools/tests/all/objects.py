@@ -3,7 +3,8 @@ as alone. A part of tools/tests/test_all."""
 import json
 import re
 
-from tests.all.told import goes_on, run, told_in
+from tests.all.told import goes_on, told_in
+from tests.program import run
 
 FAULT = re.compile(r'(?:else )?([ab]): line (\d+): ([a-z ]+)')
 

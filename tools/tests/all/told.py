@@ -2,24 +2,17 @@
 tools/tests/test_all."""
 import os
 import re
-import subprocess
 from collections import namedtuple
 
 from reading.all import end_listing, pair_listing
 from reading.groups import FROM_HERE, OF_LINKS
 from reading.texts import Text, as_read
-from tests.program import PROGRAM
 
 MOST_LINES = 700  # of captures whose rows are drawn by the second reading
 REFUSED = re.compile(r'(else )?refused ([ab]) (\d+) line \d+: (\d+) (\w+)( by the other end)?')
 
 # What is told at once: a refusal, what is not asked from here, the last answer with its counts, or that there are more.
 Told = namedtuple('Told', 'text refusal')
-
-
-def run(*words, **given):
-    done = subprocess.run([PROGRAM, *words], stdin=given.get('stdin', subprocess.DEVNULL), capture_output=True, text=True)
-    return done.stdout, done.stderr, done.returncode
 
 
 def written(folder, texts):
