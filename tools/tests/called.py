@@ -1,6 +1,6 @@
-"""The program as calls of a library: lib/texts.c with the same assembly of dist/, by tools/tests/called.c. A small case takes a start of the program a
-hundred times as long as its answer, so tests that ask much call it where DDCAP_LIBRARY names that library (tools/tests/program.py). What is named
-among the words is read before, and what was written is written after: a file is a text then."""
+"""The program as calls of a library: lib/texts.c with the same assembly of dist/, by tools/tests/called.c. To start the program takes much longer
+than a small answer, so tests that ask much call it where DDCAP_LIBRARY names that library (tools/tests/program.py). A file is a text then: what is
+named among the words is read before, and what was written is put there after."""
 import ctypes
 import os
 import subprocess

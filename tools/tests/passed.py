@@ -1,5 +1,5 @@
-"""What passed in a played pair, as tools/wire_of makes it of both captures. That is called and not started: Python takes longer to start than it takes.
-tools/tests/test_relay starts it."""
+"""What passed in a played pair, as tools/wire_of makes it of both captures. That is called and not started, since Python takes longer to start than
+it does. tools/tests/test_relay starts it."""
 import os
 from importlib.machinery import SourceFileLoader
 from importlib.util import module_from_spec, spec_from_loader

@@ -1,11 +1,11 @@
 """The built program, ddcap run as a person does, and libraries to preload into it. These settings say how it is tried:
 - DDCAP_PROGRAM: the program. Without it, the one that ./ddcap makes and runs.
-- DDCAP_LIBRARY: the same program as a library, made by link_called of tools/build/origin.sh, by which it is called in the place of being started. For
-  one call in 16 the program is started too, and has to answer the same.
+- DDCAP_LIBRARY: the same program as a library, made by link_called of tools/build/origin.sh, by which it is called in the place of being started.
+  For one call in 16 the program is started too, and has to answer the same.
 - DDCAP_EMULATED: what runs it for another machine: `qemu`, whose libraries are made by the compiler CC, and which preloads them; or `wine`, which
   preloads none, and has no devices.
-- DDCAP_QUICK: nothing that takes the toolchain, and of cases that are alike a sample, which is drawn by this text; by an emulator a share of each list
-  alone."""
+- DDCAP_QUICK: nothing that takes the toolchain, and of cases that are alike a sample, which is drawn by this text; by an emulator a share of each
+  list alone."""
 import functools
 import os
 import random
@@ -54,7 +54,7 @@ def run_bytes(*words, cwd='.'):
     if texts is None:
         return started(words, cwd=cwd)
     answer = CALLED.answer(words, texts)
-    if not is_drawn(ONE_STARTED, *(os.path.basename(word).encode() for word in words), *texts.values()):
+    if not is_drawn(ONE_STARTED, *(os.fsencode(os.path.basename(word)) for word in words), *texts.values()):
         answer.write(cwd)
         return answer[:3]
     got = started(words, cwd=cwd)

@@ -214,7 +214,7 @@ def faults_of_cuts(tap, cuts):
     """For each of so many recordings that begin at a byte of a right line, or have a hole that cuts a unit in two, how somebody is accused, or
     None."""
     texts, seen = list(right_wires(tap)), set()
-    for seed in share(range(cuts), 6):
+    for seed in share(range(cuts), 3):
         chance = random.Random('cut %d' % seed)
         # the pieces of what a script plays are units
         name, text = chance.choice([each for each in texts if seed % 2 or each[0].endswith('.script')])
@@ -264,7 +264,7 @@ def faults_of_right_nodes(tap):
     """For each session of such a node how somebody is accused without its exception, or None."""
     excused = set()
     for bug in NO_BUGS:
-        for seed, sides in share([(seed, sides) for seed in range(SEEDS) for sides in ('a', 'b', 'ab')], 4):
+        for seed, sides in share([(seed, sides) for seed in range(SEEDS) for sides in ('a', 'b', 'ab')], 3):
             out, err, status = tap.tap(wire_of_session(bug, sides, seed))
             wanted = EXCUSED.get(bug.node)
             accused = [(side, words) for side, _, _, words in AT_FAULT.findall(out)]

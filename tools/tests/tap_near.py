@@ -73,7 +73,7 @@ def faults_of_near(tap, sessions):
     """For each of so many sessions with boots and aborts, and of a third as many without them, what is wrong, or None. Most are such that `check`
     accepts them."""
     right = 0
-    seeds = share([(seed, PLAIN + NEAR) for seed in range(sessions)] + [(seed, PLAIN) for seed in range(sessions // 3)], 6)
+    seeds = share([(seed, PLAIN + NEAR) for seed in range(sessions)] + [(seed, PLAIN) for seed in range(sessions // 3)], 3)
     for seed, deeds in seeds:
         fault, is_right = fault_of_near(tap, session(seed, deeds))
         right += is_right

@@ -274,7 +274,7 @@ def is_without_restart(script):
 
 def faults_of_scripts(tap):
     """For each script without a restart that plays a run, how what passed in it is not accepted, or None."""
-    for name, script in share(scripts(), 6):
+    for name, script in share(scripts(), 3):
         if not is_without_restart(script):
             continue
         with open(tap.wire, 'w', encoding='ascii') as text:

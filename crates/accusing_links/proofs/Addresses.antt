@@ -48,11 +48,13 @@ module _ (queues : Queues) (node peer : ℕ) (s : WireLinks) (is : HaveAddresses
   each = after_kept queues s Whatever Kept all_keep
 
   pub user_keeps : (event : LinkEventValue) → Good Kept (wire_links_user queues s event)
-  user_keeps event = user_kept queues s Whatever Kept all_keep event (always_shows queues s (Unit {0}) tt (of_none queues wire_segments) (user_row event))
+  user_keeps event =
+      user_kept queues s Whatever Kept all_keep event (always_shows queues s (Unit {0}) tt (of_none queues wire_segments) (user_row event))
 
   pub arrived_keeps : (rule : PartnerRule) (packet : Carried) (tag : LinkTag) → Good Kept (wire_links_arrived queues rule s packet tag)
   arrived_keeps rule packet tag =
-      arrived_kept queues s Whatever Kept all_keep rule packet tag (always_shows queues s (Unit {0}) tt (record { tag = tag; known = tt }) (arrival_row packet.message))
+      arrived_kept queues s Whatever Kept all_keep rule packet tag
+      (always_shows queues s (Unit {0}) tt (record { tag = tag; known = tt }) (arrival_row packet.message))
 
   pub sent_keeps : (packet : Carried) → Good (Out packet) (wire_links_sent queues s packet)
   sent_keeps packet =

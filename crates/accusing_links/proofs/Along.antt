@@ -138,7 +138,8 @@ module _ (queues : Queues) (truth : LinkTruth (Unit {0})) (s : WireLinks) (Now :
     asks_good (Delivers message refusal ∷ asks) n l k shows = go (delivers message l.segments) refl (λ d x. asks_good asks n x k)
       where
         go : (o : Option WireSegments) → delivers message l.segments ≡ o →
-            ((d : WireSegments) (x : LinkOf WireSegments) → Shows asks n x → Good G (asked queues wire_segments rule truth s answer effects asks n x k)) →
+            ((d : WireSegments) (x : LinkOf WireSegments) → Shows asks n x →
+            Good G (asked queues wire_segments rule truth s answer effects asks n x k)) →
             Good G (on_ok (ok_or o refusal) (λ d. asked queues wire_segments rule truth s answer effects asks n (with_segments d l) k))
         go None e later = good_err G refusal
         go (Some d) e later = later d (with_segments d l) (shows d e)

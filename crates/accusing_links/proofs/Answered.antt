@@ -6,11 +6,8 @@ use Rattle.std.proofs.lemmas.Option.{get_or_from_slice_get}
 use Rattle.dna_station.specs.declared.link_refusal.LinkRefusal.{LinkRefusal}
 use Rattle.dna_links.specs.declared.port.Port.{Port}
 use Rattle.dna_links.specs.declared.port.LinkTest.{LinkTest}
-use Rattle.dna_links.specs.declared.queue.Queues.{Queues}
-use Rattle.dna_links.specs.declared.queue.Queues.TheVariants.{Without, With}
 use Rattle.dna_links.specs.LookUps.{passes}
 use Rattle.dna_links.specs.Links.{LinkOf, LinksOf, check, on_link, at_number, with_link, with_seen}
-use Rattle.dna_links.specs.Queues.{in_use, with_in_use}
 use Rattle.dna_links.specs.LinkBook.{on_ok}
 
 -- ---- what holds of an answer that is no refusal
@@ -68,13 +65,3 @@ module _ {D R : Type 0} (G : R → Type 0) where
       (next : ℕ → LinkOf D → Result R LinkRefusal) → Good G otherwise →
       ((n : ℕ) (l : LinkOf D) → IsFound s.links (λ l. passes test (port l)) n l → Good G (next n l)) → Good G (with_seen port test s otherwise next)
   seen_good port test s otherwise next none found = at_good s.links (λ l. passes test (port l)) otherwise next none found
-
-  -- by its port, or with queues by its port in use
-  pub in_use_good : (queues : Queues) (test : LinkTest) (s : LinksOf D) (otherwise : Result R LinkRefusal)
-      (next : ℕ → LinkOf D → Result R LinkRefusal) → Good G otherwise →
-      ((n : ℕ) (l : LinkOf D) → IsFound s.links (λ l. passes test l.port) n l → Good G (next n l)) →
-      ((n : ℕ) (l : LinkOf D) → IsFound s.links (λ l. passes test (in_use With l)) n l → Good G (next n l)) →
-      Good G (with_in_use queues test s otherwise next)
-  in_use_good Without test s otherwise next none found later = link_good test s otherwise next none found
-  in_use_good With test s otherwise next none found later =
-      link_good test s (with_seen (in_use With) test s otherwise next) next (seen_good (in_use With) test s otherwise next none later) found

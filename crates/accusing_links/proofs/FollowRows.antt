@@ -15,7 +15,8 @@ use Rattle.accusing_links.proofs.Along.{OfRow}
 use Rattle.accusing_links.proofs.Rows.{IsKept, AreKept, settled_by}
 use Rattle.accusing_links.proofs.LinkRows.{IsSmall}
 use Rattle.accusing_links.proofs.Follows.{keeps, Follows, follows_itself, follows_on, settles_follows, says_follows, forgotten_follows, IsCalm}
-use Rattle.accusing_links.proofs.Follows.{does_follows, AreFollowed, all_same, followed_changed, followed_pushed, all_booted}
+use Rattle.accusing_links.proofs.Follows.{does_follows}
+use Rattle.accusing_links.proofs.AllFollow.{AreFollowed, all_same, followed_changed, followed_pushed, all_booted}
 
 module _ (queues : Queues) (own far least : ℕ) (Q : ℕ → Type 0) where
   abbrev pub Follows' : LinkOf WireSegments → LinkOf WireSegments → Type 0

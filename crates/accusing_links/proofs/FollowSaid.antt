@@ -20,13 +20,16 @@ use Rattle.dna_links.specs.WireLinks.{WireLinks, wire_links_sent}
 use Rattle.dna_links.specs.LinkBook.{kept, after, of_none, does}
 use Rattle.dna_links.specs.Sending.{Sent}
 use Rattle.accusing_links.proofs.Answered.{Good}
+use Rattle.accusing_links.proofs.Each.{each_at}
 use Rattle.accusing_links.proofs.Along.{SendShows, sent_good}
 use Rattle.accusing_links.proofs.Rows.{kept_each, always_sends}
 use Rattle.accusing_links.proofs.Received.{Received}
 use Rattle.accusing_links.proofs.Sends.{AreSaid, sends_acks_good, sent_left}
-use Rattle.accusing_links.proofs.RightLinks.{Numbers, AreRight, right_at}
-use Rattle.accusing_links.proofs.Tied.{AreTied, tied_at}
-use Rattle.accusing_links.proofs.Follows.{IsCalm, all_follow, OneTo, AreKnown, all_by_one}
+use Rattle.accusing_links.proofs.RightLinks.{Numbers, IsLinkRight, AreRight}
+use Rattle.accusing_links.proofs.Tied.{Is, AreTied}
+use Rattle.accusing_links.proofs.Follows.{IsCalm, all_follow}
+use Rattle.accusing_links.proofs.FarLinks.{OneTo}
+use Rattle.accusing_links.proofs.AllFollow.{AreKnown, all_by_one}
 use Rattle.accusing_links.proofs.FollowSteps.{not_both}
 use Rattle.accusing_links.proofs.FollowSends.{Says, IsOf, is_of, here}
 
@@ -65,7 +68,8 @@ module _ (N P : Numbers) (queues : Queues) (own far : ℕ) (s : WireLinks) where
   module _ (right : AreRight N queues s.links) (tied : AreTied P queues s.links) (one : OneTo far s.links) where
     received_of : (to from n : ℕ) (l : LinkOf WireSegments) → IsOf queues s to from n l → from ≡ own → to ≡ far → Received 0 Q l.segments
     received_of to from n l is e f =
-        (right_at N queues s.links n l right is.there).both own far (here from own l.port.own is.from_own e) (here to far l.port.far is.to_far f)
+        (each_at (IsLinkRight N) s.links n l right is.there).both own far (here from own l.port.own is.from_own e)
+        (here to far l.port.far is.to_far f)
 
     abbrev with_said : LinkOf WireSegments → LinkOf WireSegments
     with_said l = fold (does queues wire_segments (of_none queues wire_segments)) l said
@@ -75,8 +79,8 @@ module _ (N P : Numbers) (queues : Queues) (own far : ℕ) (s : WireLinks) where
     after_said Without n l k = refl
     after_said With n l k = refl
 
-    words_known : (to from n : ℕ) (l : LinkOf WireSegments) (queue : LinkQueue) (f : WireSegments) (words : List AckWord) → IsOf queues s to from n l →
-        to ≡ far → AreSaid Q f.variables.received f.variables.pieces (made_by.last_of f) words →
+    words_known : (to from n : ℕ) (l : LinkOf WireSegments) (queue : LinkQueue) (f : WireSegments) (words : List AckWord) →
+        IsOf queues s to from n l → to ≡ far → AreSaid Q f.variables.received f.variables.pieces (made_by.last_of f) words →
         AreAtLeast queues own far Q (changed n (with_said (with_queue queue (with_segments f l))) s).links words
     words_known to from n l queue f [] is e are = tt
     words_known to from n l queue f (word ∷ words) is e are = (
@@ -86,7 +90,10 @@ module _ (N P : Numbers) (queues : Queues) (own far : ℕ) (s : WireLinks) where
         known = all_by_one queues own far this.for Q s.links n l _ one is.there (here to far l.port.far is.to_far e)
             ((all_follow queues own far this.for Q (of_none queues wire_segments) (with_queue queue (with_segments f l)) said
             (kept_each (IsCalm queues own far this.for Q) queues (Say OfRun ∷ Keep ∷ []) (tt, (tt, tt)))).known
-            (λ h i. record { begun = run_begun queues l (tied_at P queues s.links n l tied is.there).not_yet is.may; received = λ o. this.held }));
+            (λ h i. record {
+              begun = run_begun queues l (each_at (Is P queues) s.links n l tied is.there).not_yet is.may;
+              received = λ o. this.held;
+            }));
       },
       words_known to from n l queue f words is e are.1,
     )

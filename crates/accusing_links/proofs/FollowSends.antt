@@ -22,13 +22,16 @@ use Rattle.dna_links.specs.LinkBook.{of_none}
 use Rattle.dna_links.specs.Sending.{Sent}
 use Rattle.accusing_links.proofs.Answered.{Good}
 use Rattle.accusing_links.proofs.Finds.{Found, IsInUse, in_live, the_link, called_by}
+use Rattle.accusing_links.proofs.Each.{each_at}
 use Rattle.accusing_links.proofs.Along.{SendShows, lasting_sends, sent_tells}
 use Rattle.accusing_links.proofs.Rows.{IsCalmRow, calm_sends, sent_kept, always_sends}
 use Rattle.accusing_links.proofs.Received.{Received}
 use Rattle.accusing_links.proofs.Sends.{AreOnward, sends_acks_good}
 use Rattle.accusing_links.proofs.RightLinks.{Numbers}
 use Rattle.accusing_links.proofs.LinkRows.{IsSmall}
-use Rattle.accusing_links.proofs.Follows.{IsCalm, drops_follows, live_keeps, keeps, NoneTo, none_at, AreKnown, known_at}
+use Rattle.accusing_links.proofs.Follows.{IsCalm, drops_follows, live_keeps, keeps, IsKnown}
+use Rattle.accusing_links.proofs.FarLinks.{IsOther, NoneTo}
+use Rattle.accusing_links.proofs.AllFollow.{AreKnown}
 use Rattle.accusing_links.proofs.FollowRows.{Are, IsNow, blank_now, keep, all_keep}
 
 -- ---- ports
@@ -121,7 +124,8 @@ module _ (N : Numbers) (queues : Queues) (own far : ℕ) (s : WireLinks) where
     message_shows (DataAck dst src acks) small = calm (DataAck dst src acks) (assumption small)
     -- which may end a call
     message_shows (DisconnectConfirm dst src reason) small =
-        lasting_sends queues (of_none queues wire_segments) s (λ es. IsNow queues own far least Q s) (sending_row (DisconnectConfirm dst src reason)) refl
+        lasting_sends queues (of_none queues wire_segments) s (λ es. IsNow queues own far least Q s)
+        (sending_row (DisconnectConfirm dst src reason)) refl
         (tt, (blank_now queues own far least Q s, (blank_now queues own far least Q s, ended)))
       where
         ended : (n : ℕ) (l : LinkOf WireSegments) → Found s (CalledBy dst) n l →
@@ -143,9 +147,9 @@ module _ (N : Numbers) (queues : Queues) (own far : ℕ) (s : WireLinks) where
   none_shows : NoneTo far s.links → (m : NspValue) →
       SendShows queues (of_none queues wire_segments) s (λ es n l. Says own far (λ words. ⊥) m) (sending_row m)
   none_shows none (DataSegment segment) = λ n l used turn f gap made e g.
-      none_at far s.links n l none used.there (here segment.dstaddr far l.port.far (the_link segment.srcaddr segment.dstaddr n l used).1 g)
+      each_at (IsOther far) s.links n l none used.there (here segment.dstaddr far l.port.far (the_link segment.srcaddr segment.dstaddr n l used).1 g)
   none_shows none (DataAck dst src acks) = λ n l used turn sent gap made e g.
-      none_at far s.links n l none used.there (here dst far l.port.far (the_link src dst n l used).1 g)
+      each_at (IsOther far) s.links n l none used.there (here dst far l.port.far (the_link src dst n l used).1 g)
   none_shows none m = always_sends queues s (Unit {0}) tt (of_none queues wire_segments) (sending_row m)
 
   pub sent_none : NoneTo far s.links → (packet : Carried) →
@@ -157,7 +161,7 @@ module _ (N : Numbers) (queues : Queues) (own far : ℕ) (s : WireLinks) where
   module _ (least : ℕ) (known : AreKnown queues own far least Q s.links) where
     known_of : (to from n : ℕ) (l : LinkOf WireSegments) → IsOf queues s to from n l → from ≡ own → to ≡ far → Received least Q l.segments
     known_of to from n l is e f =
-        (known_at queues own far least Q s.links n l known is.there (here to far l.port.far is.to_far f) is.kept_on).received
+        (each_at (IsKnown queues own far least Q) s.links n l known is.there (here to far l.port.far is.to_far f) is.kept_on).received
         (here from own l.port.own is.from_own e)
 
     onward_shows : (m : NspValue) → IsInRange m →

@@ -1,6 +1,6 @@
 -- What the user does and what comes keeps it what is known of a link's last acknowledgement sent; and what comes first from a far address joins one
 -- link to it.
-use Rattle.std.proofs.Common.{◌≡◌, ℕ, ◌<◌, Bool, true, false, ◌&&◌, ◌||◌, ◌⊎◌, not, eqb, Option, Some, None, List, [], ◌∷◌, refl, sym}
+use Rattle.std.proofs.Common.{◌≡◌, ℕ, ◌<◌, Bool, true, false, ◌&&◌, ◌⊎◌, not, eqb, Option, Some, None, List, [], ◌∷◌, refl, sym}
 use Rattle.std.proofs.Common.{subst, ap, ◌∙◌, fold}
 use Rattle.std.specs.Prelude.{slice_get}
 use Rattle.dna_packet.specs.Nsp.{SegmentValue, NspValue, DataSegment, LinkService, DataAck, OtherDataAck, ConnectInitiate}
@@ -31,7 +31,9 @@ use Rattle.accusing_links.proofs.RightLinks.{Numbers}
 use Rattle.accusing_links.proofs.LinkRows.{IsSmall}
 use Rattle.accusing_links.proofs.LinkSteps.{HasPassed, in_run}
 use Rattle.accusing_links.proofs.Follows.{keeps, live_keeps, Follows, follows_itself, follows_on, goes_follows, ends_follows, drops_follows}
-use Rattle.accusing_links.proofs.Follows.{requeued_follows, IsCalm, all_follow, NoneTo, OneTo, one_pushed, one_changed, one_of_none}
+use Rattle.accusing_links.proofs.Follows.{or_second, requeued_follows, IsCalm, all_follow}
+use Rattle.accusing_links.proofs.FarLinks.{NoneTo, OneTo, one_pushed, one_changed, one_of_none}
+use Rattle.accusing_links.proofs.Ports.{goes_far}
 use Rattle.accusing_links.proofs.FollowRows.{Are, IsNow, blank_now, keep, all_keep}
 
 -- a call in use keeps what has numbers
@@ -39,10 +41,6 @@ open_before : (over : Bool) (phase : Phase) → is_in Calling phase ≡ true →
 open_before true Calling e = refl
 open_before true phase e = absurd cc
 open_before false phase e = refl
-
-or_second : (a b : Bool) → b ≡ true → (a || b) ≡ true
-or_second true b e = refl
-or_second false b e = e
 
 calling_waits : (waits : Option Phase) (l : LinkOf WireSegments) → l.queue.waits ≡ waits →
     is_in Calling (port_of_waiting waits l.port).phase ≡ true → keeps With l ≡ true
@@ -54,14 +52,6 @@ calling_waits (Some phase) l at calling =
 calling_keeps : (q : Queues) (l : LinkOf WireSegments) → is_calling (in_use q l).phase ≡ true → keeps q l ≡ true
 calling_keeps Without l calling = live_keeps Without l (in_live Calling l.port.phase calling refl)
 calling_keeps With l calling = calling_waits l.queue.waits l refl calling
-
-goes_far : (q : Queues) (phase : Phase) (l : LinkOf WireSegments) → (goes_to wire_segments q phase l).port.far ≡ l.port.far
-goes_far Without phase l = refl
-goes_far With phase l = go (is_live l.port.phase)
-  where
-    go : (b : Bool) → (goes_on wire_segments b phase l).port.far ≡ l.port.far
-    go true = refl
-    go false = refl
 
 pub not_both : {X : Type 0} (b : Bool) → b ≡ true → b ≡ false → X
 not_both b e f = absurd cc
@@ -131,7 +121,8 @@ module _ (N : Numbers) (queues : Queues) (own far least : ℕ) (s : WireLinks) w
 
     calm : (row : Row) → IsCalmRow IsSmall (IsCalm queues own far least Q) row → Shown row
     calm row is =
-        calm_shows queues s (IsNow queues own far least Q s) IsSmall (IsCalm queues own far least Q) truth (keep queues own far least Q s truth) row is
+        calm_shows queues s (IsNow queues own far least Q s) IsSmall (IsCalm queues own far least Q) truth (keep queues own far least Q s truth)
+        row is
 
     none : IsNow queues own far least Q s None (blank queues wire_segments)
     none = blank_now queues own far least Q s

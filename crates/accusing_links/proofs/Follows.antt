@@ -1,8 +1,7 @@
 -- What becomes of a link of which it is known that its last acknowledgement sent is at least a number: it gets the far address that is asked of by no
 -- effect of a row, and what is known stays so as long as it may yet send what has numbers.
-use Rattle.std.proofs.Common.{◌≡◌, ℕ, Bool, true, false, ◌&&◌, ◌||◌, not, Option, Some, None, List, [], ◌∷◌, ◌++◌, map, zero, suc, fold}
+use Rattle.std.proofs.Common.{◌≡◌, ℕ, Bool, true, false, ◌&&◌, ◌||◌, not, Option, Some, None, List, [], ◌∷◌, fold}
 use Rattle.std.proofs.Common.{refl, sym, subst, ap, ◌∙◌}
-use Rattle.std.specs.Prelude.{slice_get, slice_set}
 use Rattle.dna_links.specs.declared.port.Phase.{Phase}
 use Rattle.dna_links.specs.declared.port.Phase.TheVariants.{Called, Disconnecting}
 use Rattle.dna_links.specs.declared.port.Port.{Port}
@@ -17,8 +16,9 @@ use Rattle.dna_links.specs.Queues.{booted_link, forgotten, call_of, drops_segmen
 use Rattle.dna_links.specs.Table.{Effect, OpenHere, GiveAddress, Connect, GoTo, End, Drop, EndAll, Say, Settle, Keep, HandIn, TakeSegment, TakeAcks}
 use Rattle.dna_links.specs.WireSegments.{WireSegments, wire_segments}
 use Rattle.dna_links.specs.LinkBook.{does}
-use Rattle.accusing_links.proofs.Received.{Received, weaker, acks_received}
-use Rattle.accusing_links.proofs.Rows.{Each}
+use Rattle.accusing_links.proofs.Received.{Received, acks_received}
+use Rattle.accusing_links.proofs.Each.{Each}
+use Rattle.accusing_links.proofs.Ports.{dropped_port, forgotten_port, booted_port}
 
 -- a link may yet send what has numbers
 abbrev pub keeps : Queues → LinkOf WireSegments → Bool
@@ -28,6 +28,10 @@ keeps With l = keeps_numbers l
 pub or_first : (a b : Bool) → a ≡ true → (a || b) ≡ true
 or_first true b e = refl
 or_first false b e = absurd cc
+
+pub or_second : (a b : Bool) → b ≡ true → (a || b) ≡ true
+or_second true b e = refl
+or_second false b e = e
 
 or_none : (a : Bool) → (a || false) ≡ true → a ≡ true
 or_none true e = refl
@@ -40,45 +44,6 @@ or_more false b c more e = more e
 pub live_keeps : (q : Queues) (l : LinkOf WireSegments) → is_live l.port.phase ≡ true → keeps q l ≡ true
 live_keeps Without l e = e
 live_keeps With l e = or_first (is_live l.port.phase) (has_waiting l.queue.waits l.queue.said) e
-
--- ---- how many links have a far address
-
-module _ (far : ℕ) where
-  -- none has the far address
-  abbrev pub NoneTo : List (LinkOf WireSegments) → Type 0
-  NoneTo [] = Unit {0}
-  NoneTo (l ∷ links) = (l.port.far ≡ Some far → ⊥) × NoneTo links
-
-  -- at most one has it
-  abbrev pub OneTo : List (LinkOf WireSegments) → Type 0
-  OneTo [] = Unit {0}
-  OneTo (l ∷ links) = (l.port.far ≡ Some far → NoneTo links) × OneTo links
-
-  pub one_of_none : (links : List (LinkOf WireSegments)) → NoneTo links → OneTo links
-  one_of_none [] none = tt
-  one_of_none (l ∷ links) none = (λ e. none.1, one_of_none links none.1)
-
-  pub none_pushed : (later : List (LinkOf WireSegments)) (m : LinkOf WireSegments) → NoneTo later → (m.port.far ≡ Some far → ⊥) →
-      NoneTo (later ++ m ∷ [])
-  none_pushed [] m none this = (this, tt)
-  none_pushed (first ∷ later) m none this = (none.0, none_pushed later m none.1 this)
-
-  -- the first to which the far address is given
-  pub one_pushed : (links : List (LinkOf WireSegments)) (l : LinkOf WireSegments) → NoneTo links → OneTo (links ++ l ∷ [])
-  one_pushed [] l none = (λ e. tt, tt)
-  one_pushed (first ∷ links) l none = (λ e. absurd (none.0 e), one_pushed links l none.1)
-
-  pub one_changed : (links : List (LinkOf WireSegments)) (n : ℕ) (l : LinkOf WireSegments) → NoneTo links → OneTo (slice_set links n l)
-  one_changed [] n l none = tt
-  one_changed (first ∷ links) zero l none = (λ e. none.1, one_of_none links none.1)
-  one_changed (first ∷ links) (suc n) l none = (λ e. absurd (none.0 e), one_changed links n l none.1)
-
-  pub none_at : (links : List (LinkOf WireSegments)) (n : ℕ) (l : LinkOf WireSegments) → NoneTo links → slice_get links n ≡ Some l →
-      l.port.far ≡ Some far → ⊥
-  none_at [] n l none at e = absurd cc
-  none_at (first ∷ links) zero l none at e =
-      let same : first ≡ l = cc in none.0 (subst (λ (x : LinkOf WireSegments). x.port.far ≡ Some far) (sym same) e)
-  none_at (first ∷ links) (suc n) l none at e = none_at links n l none.1 at e
 
 -- the links with this far address; one of them is known that has this own address
 module _ (queues : Queues) (own far least : ℕ) (Q : ℕ → Type 0) where
@@ -145,10 +110,6 @@ module _ (queues : Queues) (own far least : ℕ) (Q : ℕ → Type 0) where
         record { begun = refl; received = λ o. let_go (keeps_numbers l) _ l.segments may (was.received o) };
   }
 
-  dropped_far : (q : Queues) (l : LinkOf WireSegments) → (drops wire_segments q l).port.far ≡ l.port.far
-  dropped_far Without l = refl
-  dropped_far With l = refl
-
   never : {X : Type 0} → true ≡ false → X
   never e = absurd cc
 
@@ -164,10 +125,10 @@ module _ (queues : Queues) (own far least : ℕ) (Q : ℕ → Type 0) where
 
   pub drops_follows : (q : Queues) → q ≡ queues → (l : LinkOf WireSegments) → keeps q l ≡ true → Follows l (drops wire_segments q l)
   drops_follows q at l kept = record {
-    to = λ e. sym (dropped_far q l) ∙ e;
+    to = λ e. sym (ap (λ (p : Port). p.far) (dropped_port q l)) ∙ e;
     known = λ k e g.
         let may : keeps q (drops wire_segments q l) ≡ true = subst (λ (x : Queues). keeps x (drops wire_segments q l) ≡ true) (sym at) g in
-        dropped_past q l may (k (sym (dropped_far q l) ∙ e) (subst (λ (x : Queues). keeps x l ≡ true) at kept));
+        dropped_past q l may (k (sym (ap (λ (p : Port). p.far) (dropped_port q l)) ∙ e) (subst (λ (x : Queues). keeps x l ≡ true) at kept));
   }
 
   -- ---- what it has said, and what waits
@@ -220,10 +181,6 @@ module _ (queues : Queues) (own far least : ℕ) (Q : ℕ → Type 0) where
   forgotten_keeps With l e =
       or_first (is_live l.port.phase) (has_waiting l.queue.waits l.queue.said) (or_none (is_live l.port.phase) e)
 
-  forgotten_port : (q : Queues) (l : LinkOf WireSegments) → (forgotten wire_segments q l).port ≡ record l.port { own = None }
-  forgotten_port Without l = refl
-  forgotten_port With l = refl
-
   not_given : {X : Type 0} → ◌≡◌ {A = Option ℕ} None (Some own) → X
   not_given e = absurd cc
 
@@ -245,13 +202,9 @@ module _ (queues : Queues) (own far least : ℕ) (Q : ℕ → Type 0) where
   booted_keeps Without l = refl
   booted_keeps With l = refl
 
-  booted_far : (q : Queues) (l : LinkOf WireSegments) → (booted_link wire_segments q l).port.far ≡ l.port.far
-  booted_far Without l = refl
-  booted_far With l = refl
-
   pub booted_follows : (l : LinkOf WireSegments) → Follows l (booted_link wire_segments queues l)
   booted_follows l = record {
-    to = λ e. sym (booted_far queues l) ∙ e;
+    to = λ e. sym (ap (λ (p : Port). p.far) (booted_port queues l)) ∙ e;
     known = λ k e g. never (sym g ∙ booted_keeps queues l);
   }
 
@@ -309,84 +262,3 @@ module _ (queues : Queues) (own far least : ℕ) (Q : ℕ → Type 0) where
   all_follow truth l (effect ∷ effects) calm =
       follows_on l (does queues wire_segments truth l effect) (fold (does queues wire_segments truth) l (effect ∷ effects))
       (does_follows truth l effect calm.0) (all_follow truth (does queues wire_segments truth l effect) effects calm.1)
-
-  -- ---- all links of a node
-
-  abbrev pub AreKnown : List (LinkOf WireSegments) → Type 0
-  AreKnown [] = Unit {0}
-  AreKnown (l ∷ links) = IsKnown l × AreKnown links
-
-  -- each follows, and new ones have not the far address
-  abbrev pub AreFollowed : List (LinkOf WireSegments) → List (LinkOf WireSegments) → Type 0
-  AreFollowed [] later = NoneTo far later
-  AreFollowed (l ∷ links) [] = ⊥
-  AreFollowed (l ∷ links) (m ∷ later) = Follows l m × AreFollowed links later
-
-  pub none_followed : (links later : List (LinkOf WireSegments)) → AreFollowed links later → NoneTo far links → NoneTo far later
-  none_followed [] later are none = are
-  none_followed (l ∷ links) [] are none = absurd are
-  none_followed (l ∷ links) (m ∷ later) are none = (λ e. none.0 (are.0.to e), none_followed links later are.1 none.1)
-
-  pub one_followed : (links later : List (LinkOf WireSegments)) → AreFollowed links later → OneTo far links → OneTo far later
-  one_followed [] later are one = one_of_none far later are
-  one_followed (l ∷ links) [] are one = absurd are
-  one_followed (l ∷ links) (m ∷ later) are one =
-      (λ e. none_followed links later are.1 (one.0 (are.0.to e)), one_followed links later are.1 one.1)
-
-  known_of_none : (links : List (LinkOf WireSegments)) → NoneTo far links → AreKnown links
-  known_of_none [] none = tt
-  known_of_none (l ∷ links) none = (λ e. absurd (none.0 e), known_of_none links none.1)
-
-  pub known_followed : (links later : List (LinkOf WireSegments)) → AreFollowed links later → AreKnown links → AreKnown later
-  known_followed [] later are known = known_of_none later are
-  known_followed (l ∷ links) [] are known = absurd are
-  known_followed (l ∷ links) (m ∷ later) are known = (are.0.known known.0, known_followed links later are.1 known.1)
-
-  pub all_same : (links : List (LinkOf WireSegments)) → AreFollowed links links
-  all_same [] = tt
-  all_same (l ∷ links) = (follows_itself l, all_same links)
-
-  pub followed_changed : (links later : List (LinkOf WireSegments)) (n : ℕ) (l m : LinkOf WireSegments) → AreFollowed links later →
-      slice_get links n ≡ Some l → Follows l m → AreFollowed links (slice_set later n m)
-  followed_changed [] later n l m are at is = absurd cc
-  followed_changed (first ∷ links) [] n l m are at is = absurd are
-  followed_changed (first ∷ links) (next ∷ later) zero l m are at is =
-      let same : first ≡ l = cc in (subst (λ (x : LinkOf WireSegments). Follows x m) (sym same) is, are.1)
-  followed_changed (first ∷ links) (next ∷ later) (suc n) l m are at is = (are.0, followed_changed links later n l m are.1 at is)
-
-  pub followed_pushed : (links later : List (LinkOf WireSegments)) (m : LinkOf WireSegments) → AreFollowed links later →
-      (m.port.far ≡ Some far → ⊥) → AreFollowed links (later ++ m ∷ [])
-  followed_pushed [] later m are this = none_pushed far later m are this
-  followed_pushed (first ∷ links) [] m are this = absurd are
-  followed_pushed (first ∷ links) (next ∷ later) m are this = (are.0, followed_pushed links later m are.1 this)
-
-  pub all_booted : (links : List (LinkOf WireSegments)) → AreFollowed links (map (booted_link wire_segments queues) links)
-  all_booted [] = tt
-  all_booted (l ∷ links) = (booted_follows l, all_booted links)
-
-  pub known_at : (links : List (LinkOf WireSegments)) (n : ℕ) (l : LinkOf WireSegments) → AreKnown links → slice_get links n ≡ Some l → IsKnown l
-  known_at [] n l known at = absurd cc
-  known_at (first ∷ links) zero l known at = let same : first ≡ l = cc in subst IsKnown same known.0
-  known_at (first ∷ links) (suc n) l known at = known_at links n l known.1 at
-
-  -- of the one that has it this is known
-  pub all_by_one : (links : List (LinkOf WireSegments)) (n : ℕ) (l m : LinkOf WireSegments) → OneTo far links → slice_get links n ≡ Some l →
-      l.port.far ≡ Some far → IsKnown m → AreKnown (slice_set links n m)
-  all_by_one [] n l m one at to is = absurd cc
-  all_by_one (first ∷ links) zero l m one at to is =
-      let same : first ≡ l = cc in
-      (is, known_of_none links (one.0 (subst (λ (x : LinkOf WireSegments). x.port.far ≡ Some far) (sym same) to)))
-  all_by_one (first ∷ links) (suc n) l m one at to is =
-      (λ e. absurd (none_at far links n l (one.0 e) at to), all_by_one links n l m one.1 at to is)
-
--- where more passed
-module _ (queues : Queues) (own far least : ℕ) (Q R : ℕ → Type 0) (more : (number : ℕ) → Q number → R number) where
-  pub known_more : (links : List (LinkOf WireSegments)) → AreKnown queues own far least Q links → AreKnown queues own far least R links
-  known_more [] known = tt
-  known_more (l ∷ links) known = (
-    λ e g. let was = known.0 e g in record {
-      begun = was.begun;
-      received = λ o. weaker least Q R _ _ _ more (was.received o);
-    },
-    known_more links known.1,
-  )

@@ -2,6 +2,7 @@ pub mod Packets
 -- what a station holds, and sends again
 pub mod Held
 -- the addresses of its node and of the other one stay
+pub mod Each
 pub mod Answered
 pub mod Finds
 pub mod Along
@@ -33,7 +34,10 @@ pub mod Passing
 -- so what no node sends has no placing
 pub mod Final
 -- a link's last acknowledgement sent goes on
+pub mod FarLinks
+pub mod Ports
 pub mod Follows
+pub mod AllFollow
 pub mod FollowRows
 pub mod FollowSteps
 pub mod FollowSends
@@ -44,7 +48,9 @@ pub mod Numbered
 pub mod Phases
 pub mod Onwards
 pub mod Shown
+pub mod Claims
 pub mod NoneBack
+pub mod PlacedClaims
 pub mod Backward
 pub mod Saying
 pub mod Telling

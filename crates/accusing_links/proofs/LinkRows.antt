@@ -5,16 +5,16 @@ use Rattle.std.specs.List.{AllByRecursion}
 use Rattle.dna_packet.specs.AckWord.{IsAckWord}
 use Rattle.dna_links.specs.declared.queue.Queues.{Queues}
 use Rattle.dna_links.specs.Links.{LinkOf, LinkTruth}
-use Rattle.dna_links.specs.Queues.{further}
+use Rattle.dna_links.specs.Queues.{further, drops}
 use Rattle.dna_links.specs.Table.{Ask, SendsSegment, SendsAcks}
-use Rattle.dna_links.specs.WireSegments.{WireSegments}
+use Rattle.dna_links.specs.WireSegments.{WireSegments, wire_segments}
 use Rattle.dna_links.specs.WireLinks.{WireLinks}
 use Rattle.accusing_links.proofs.Received.{delivers_received}
 use Rattle.accusing_links.proofs.Sends.{sends_acks_good, sent_left}
+use Rattle.accusing_links.proofs.Each.{each_at}
 use Rattle.accusing_links.proofs.Along.{OfRow}
-use Rattle.accusing_links.proofs.Rows.{IsKept, AreKept, settled_by}
-use Rattle.accusing_links.proofs.RightLinks.{Numbers, Never, IsLinkRight, blank_right, IsCalm, does_right, AreRight, right_at, right_pushed}
-use Rattle.accusing_links.proofs.RightLinks.{right_changed, forgotten_right, right_booted, requeued_right}
+use Rattle.accusing_links.proofs.Rows.{IsKept, AreKept, settled_by, each_keeps}
+use Rattle.accusing_links.proofs.RightLinks.{Numbers, Never, IsLinkRight, blank_right, IsCalm, does_right, AreRight, forgotten_right, requeued_right}
 
 -- the words in what is asked have 12 bits
 abbrev pub IsSmall : Ask → Type 0
@@ -34,7 +34,7 @@ module _ (Q : Numbers) (queues : Queues) where
 
   module _ (s : WireLinks) (are : AreRight Q queues s.links) where
     pub there : (n : ℕ) (l : LinkOf WireSegments) → slice_get s.links n ≡ Some l → Is l
-    there n l at = right_at Q queues s.links n l are at
+    there n l at = each_at Is s.links n l are at
 
     pub keeps : (truth : LinkTruth (Unit {0})) → IsKept queues s Now IsSmall (IsCalm Q queues) truth
     keeps truth = record {
@@ -56,13 +56,8 @@ module _ (Q : Numbers) (queues : Queues) where
     }
 
     pub all_keep : AreKept queues s Now Are
-    all_keep = record {
-      same = are;
-      there = there;
-      forgets = λ n l is. forgotten_right Q queues queues l;
-      settles = λ n l is. settled_by Is l.queue.waits l (requeued_right Q queues _ l.queue.said l is)
-          (λ said. requeued_right Q queues l.queue.waits (further said l.queue.said) l is) is;
-      pushes = λ x l right is. right_pushed Q queues x.links l right is;
-      changes = λ x n l right is. right_changed Q queues x.links n l right is;
-      boots = right_booted Q queues s.links;
-    }
+    all_keep =
+        each_keeps queues s Is are (λ l is. forgotten_right Q queues queues l)
+        (λ l is. settled_by Is l.queue.waits l (requeued_right Q queues _ l.queue.said l is)
+        (λ said. requeued_right Q queues l.queue.waits (further said l.queue.said) l is) is)
+        (λ l is. forgotten_right Q queues queues (drops wire_segments queues l))

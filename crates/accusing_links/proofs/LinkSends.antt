@@ -25,7 +25,8 @@ module _ (Q : Numbers) (queues : Queues) (s : WireLinks) (are : AreRight Q queue
   calm : (m : NspValue) → IsCalmRow IsSmall (IsCalm Q queues) (sending_row m) →
       SendShows queues (of_none queues wire_segments) s (λ es. Now Q queues) (sending_row m)
   calm m is =
-      calm_sends queues s (Now Q queues) IsSmall (IsCalm Q queues) (of_none queues wire_segments) (keeps Q queues s are (of_none queues wire_segments))
+      calm_sends queues s (Now Q queues) IsSmall (IsCalm Q queues) (of_none queues wire_segments)
+      (keeps Q queues s are (of_none queues wire_segments))
       (sending_row m) is
 
   message_shows : (m : NspValue) → IsInRange m → SendShows queues (of_none queues wire_segments) s (λ es. Now Q queues) (sending_row m)

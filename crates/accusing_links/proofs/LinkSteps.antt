@@ -100,7 +100,8 @@ module _ (Q : Numbers) (queues : Queues) (s : WireLinks) (are : AreRight Q queue
         let acts = acted_on segment.dstaddr segment.srcaddr n l s found in
         let run = in_run queues l acts.0 in
         taken_right (goes_to wire_segments queues Running l) segment
-        (goes_right Q queues queues Running l refl (there Q queues s are n l found.there)) run.late (run.own ∙ acts.1.0) (run.far ∙ acts.1.1) small came
+        (goes_right Q queues queues Running l refl (there Q queues s are n l found.there)) run.late (run.own ∙ acts.1.0)
+        (run.far ∙ acts.1.1) small came
 
     message_shows : (m : NspValue) → IsInRange m → HasPassed Q m → Shown (arrival_row m)
     message_shows (DataSegment segment) small came = (blank_right Q queues, λ n l found. taken segment small.1 came n l found)

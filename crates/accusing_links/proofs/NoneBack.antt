@@ -1,43 +1,36 @@
 -- A side for which records exist sends no acknowledgement alone that goes back.
-use Rattle.std.proofs.Common.{◌≡◌, ℕ, ◌≤◌, Bool, true, false, ◌||◌, not, eqb, Option, Some, None, Result, Ok, List, []}
+use Rattle.std.proofs.Common.{◌≡◌, ℕ, ◌≤◌, Bool, true, ◌||◌, Ok, List, []}
 use Rattle.std.proofs.Common.{◌∷◌, ◌++◌, refl, sym, subst, ap, ◌∙◌, ◌⊎◌, inl, inr, arith}
-use Rattle.std.specs.List.{list_any}
-use Rattle.std.proofs.lemmas.Bool.{and_parts, and_from, eq-eqb}
-use Rattle.ddcmp_msg.specs.Message.{MessageValue, Data, Ack, Nak, Rep, Strt, Stack}
+use Rattle.ddcmp_msg.specs.Message.{MessageValue}
 use Rattle.ddcmp_msg.specs.Reading.{ReadingValue, reading, Sound}
-use Rattle.dna_packet.specs.declared.ack_word.AckWord.{AckWord}
-use Rattle.dna_packet.specs.Nsp.{NspValue, DataSegment, DataAck, LinkService, OtherDataAck, ConnectAck, NoOperation, ConnectInitiate, ConnectConfirm}
-use Rattle.dna_packet.specs.Nsp.{DisconnectInitiate, DisconnectConfirm, IsInRange}
+use Rattle.dna_packet.specs.Nsp.{IsInRange}
 use Rattle.dna_station.specs.declared.head.Head.{Head}
 use Rattle.dna_station.specs.declared.tag.Tag.{Tag}
-use Rattle.dna_station.specs.declared.refusal.StepRefusal.{StepRefusal}
 use Rattle.dna_station.specs.Book.{body_of}
 use Rattle.dna_station.specs.WireStation.{WireStation}
 use Rattle.dna_links.specs.declared.queue.Queues.{Queues}
 use Rattle.dna_links.specs.declared.tag.LinkTag.{LinkTag}
-use Rattle.dna_links.specs.SegmentBook.{is_of_data}
-use Rattle.dna_links.specs.Links.{Carried}
 use Rattle.dna_links.specs.WireLinks.{WireLinks}
-use Rattle.dna_node.specs.Content.{content}
 use Rattle.dna_node.specs.WireLayers.{WireLayers}
 use Rattle.dna_node.proofs.ReadInRange.{content_in_range}
 use Rattle.accusing.specs.Placing.{Passed, Own, Other, machine}
-use Rattle.accusing_links.specs.Segments.{shown_in, segment_of}
-use Rattle.accusing_links.specs.Back.{is_word, said_in, alone_in, sent_in, sent_of, calls_of, told, is_back}
+use Rattle.accusing_links.specs.Segments.{segment_of}
+use Rattle.accusing_links.specs.Back.{said_in, sent_in, calls_of}
 use Rattle.accusing_links.proofs.Passing.{passed_more}
-use Rattle.accusing_links.proofs.Sends.{AreOnward}
 use Rattle.accusing_links.proofs.Numbered.{Bears, IsNumbered, label_numbered, sends_numbered, sends_again}
 use Rattle.accusing_links.proofs.Numbered.{numbered_more}
 use Rattle.accusing_links.proofs.Inverted.{IsSent, Again, NoMessage, First}
 use Rattle.accusing_links.proofs.Final.{N, P, Right, right_later, AllCame}
 use Rattle.accusing_links.proofs.Final.{all_later, one_came, all_pushed}
-use Rattle.accusing_links.proofs.Follows.{NoneTo, OneTo, AreKnown, known_more, one_followed, none_followed}
-use Rattle.accusing_links.proofs.FollowSteps.{not_both}
-use Rattle.accusing_links.proofs.FollowSends.{Says, SaysAlone, sent_follows, sent_none, sent_onward}
+use Rattle.accusing_links.proofs.FarLinks.{NoneTo, OneTo}
+use Rattle.accusing_links.proofs.AllFollow.{known_more, one_followed, none_followed}
+use Rattle.accusing_links.proofs.FollowSends.{Says, sent_follows, sent_none, sent_onward}
 use Rattle.accusing_links.proofs.FollowSaid.{IsAtLeast, AreAtLeast, sent_said}
 use Rattle.accusing_links.proofs.Phases.{sent_own, sent_other, calls_own, calls_other, calls_in, calls_pushed, words_of, one_of_words}
 use Rattle.accusing_links.proofs.Phases.{IsPhase, Follow, said_follows}
-use Rattle.accusing_links.proofs.Onwards.{Q, said, Gone, none_back, or_cases, or_one, or_second, not_false}
+use Rattle.accusing_links.proofs.Onwards.{Q, said, Gone, or_cases}
+use Rattle.accusing_links.proofs.Follows.{or_second}
+use Rattle.accusing_links.proofs.Claims.{Claim, again_claim, nothing_claim, Tells, first_claim}
 use Rattle.accusing_links.proofs.Shown.{shown_none, shown_gone, shown_message, gone_now}
 
 module _ (queues : Queues) (head : Head) (own far : ℕ) where
@@ -92,139 +85,6 @@ module _ (queues : Queues) (head : Head) (own far : ℕ) where
             (λ l. omega (arith, l, more)) (λ l e. omega (arith, l, e, pushed, more, few))
             (λ n e. sym (sent_other (λ num. said_in) before unit own far n) ∙ e) (is.phase fewer);
       }
-
-  -- ---- a unit of this side
-
-  -- no word of a message alone goes back
-  abbrev NoBack : List Passed → ℕ → List AckWord → Type 0
-  NoBack before num acks = calls_of before far ≤ 1 → list_any (is_back (told before) num own far) acks ≡ false
-
-  abbrev pub Claim : List Passed → MessageValue → Type 0
-  Claim before (Data flags resp num body) =
-      (packet : Carried) → content body ≡ Ok (Some packet) → SaysAlone own far (NoBack before num) packet.message
-  Claim before m = Unit {0}
-
-  -- a unit that goes again
-
-  record IsBackWord (before : List Passed) (num : ℕ) (acks : List AckWord) : Type 0 where
-    word : AckWord
-    among : list_any (is_word word.number) acks ≡ true
-    back : is_back (told before) num own far word ≡ true
-
-  back_word : (before : List Passed) (num : ℕ) (acks : List AckWord) → list_any (is_back (told before) num own far) acks ≡ true →
-      IsBackWord before num acks
-  back_word before num [] e = absurd cc
-  back_word before num (word ∷ acks) e = go (or_cases _ _ e) (back_word before num acks)
-    where
-      go : (is_back (told before) num own far word ≡ true) ⊎ (list_any (is_back (told before) num own far) acks ≡ true) →
-          (list_any (is_back (told before) num own far) acks ≡ true → IsBackWord before num acks) → IsBackWord before num (word ∷ acks)
-      go (inl this) rest = record {
-        word = word;
-        among = or_one (is_word word.number word) _
-            (and_from (is_of_data word.qualifier) (eqb word.number word.number) (and_parts (is_of_data word.qualifier) _ this).0
-            (eq-eqb word.number word.number refl));
-        back = this;
-      }
-      go (inr later) rest =
-          let is = rest later in
-          record { word = is.word; among = or_second (is_word is.word.number word) _ is.among; back = is.back }
-
-  none_again : (before : List Passed) (num : ℕ) (body : List ℕ) (dst src : ℕ) (acks : List AckWord) (packet_dst packet_src : ℕ) →
-      Gone before num body →
-      content body ≡ Ok (Some (record { dst = packet_dst; src = packet_src; message = DataAck dst src acks })) → src ≡ own →
-      list_any (is_back (told before) num own far) acks ≡ false
-  none_again before num body dst src acks packet_dst packet_src gone is of_own = go (list_any (is_back (told before) num own far) acks) refl
-    where
-      never : list_any (is_back (told before) num own far) acks ≡ true → ⊥
-      never e =
-          let found = back_word before num acks e in
-          let parts = and_parts (is_of_data found.word.qualifier) _ found.back in
-          let alone = (and_parts (not (sent_of alone_in before num own found.word.number)) _ parts.1).0 in
-          let shown : alone_in num (DataAck dst src acks) num own found.word.number ≡ true =
-          and_from (eqb num num) _ (eq-eqb num num refl) (and_from (eqb src own) _ (eq-eqb src own of_own) found.among) in
-          let was = gone alone_in num own found.word.number
-          (subst (λ (x : Result (Option Carried) StepRefusal). shown_in (alone_in num) x num own found.word.number ≡ true) (sym is) shown) in
-          not_both (sent_of alone_in before num own found.word.number) was (not_false (sent_of alone_in before num own found.word.number) alone)
-
-      go : (b : Bool) → list_any (is_back (told before) num own far) acks ≡ b → b ≡ false
-      go true e = absurd (never e)
-      go false e = refl
-
-  again_alone : (before : List Passed) (num : ℕ) (body : List ℕ) (m : NspValue) (packet_dst packet_src : ℕ) → Gone before num body →
-      content body ≡ Ok (Some (record { dst = packet_dst; src = packet_src; message = m })) → SaysAlone own far (NoBack before num) m
-  again_alone before num body (DataAck dst src acks) packet_dst packet_src gone is =
-      λ e f few. none_again before num body dst src acks packet_dst packet_src gone is e
-  again_alone before num body (DataSegment s) packet_dst packet_src gone is = tt
-  again_alone before num body (LinkService interrupt dst src rest) packet_dst packet_src gone is = tt
-  again_alone before num body (OtherDataAck dst src rest) packet_dst packet_src gone is = tt
-  again_alone before num body (ConnectAck dst) packet_dst packet_src gone is = tt
-  again_alone before num body (NoOperation rest) packet_dst packet_src gone is = tt
-  again_alone before num body (ConnectInitiate retransmitted src services info segsize user_data) packet_dst packet_src gone is = tt
-  again_alone before num body (ConnectConfirm dst src services info segsize user_data) packet_dst packet_src gone is = tt
-  again_alone before num body (DisconnectInitiate dst src reason user_data) packet_dst packet_src gone is = tt
-  again_alone before num body (DisconnectConfirm dst src reason) packet_dst packet_src gone is = tt
-
-  again_claim : (before : List Passed) (m : MessageValue) → Bears (Gone before) m → Claim before m
-  again_claim before (Data flags resp num body) gone =
-      λ packet is. again_alone before num body packet.message packet.dst packet.src gone is
-  again_claim before (Ack flags resp) gone = tt
-  again_claim before (Nak flags reason resp) gone = tt
-  again_claim before (Rep flags num) gone = tt
-  again_claim before (Strt flags) gone = tt
-  again_claim before (Stack flags) gone = tt
-
-  -- a packet without a message of the links
-
-  nothing_claim : (before : List Passed) (m : MessageValue) → content (body_of m) ≡ Ok None → Claim before m
-  nothing_claim before (Data flags resp num body) none = λ packet is. absurd (never packet (sym none ∙ is))
-    where
-      never : (packet : Carried) → ◌≡◌ {A = Result (Option Carried) StepRefusal} (Ok None) (Ok (Some packet)) → ⊥
-      never packet e = absurd cc
-  nothing_claim before (Ack flags resp) none = tt
-  nothing_claim before (Nak flags reason resp) none = tt
-  nothing_claim before (Rep flags num) none = tt
-  nothing_claim before (Strt flags) none = tt
-  nothing_claim before (Stack flags) none = tt
-
-  -- a message that goes for the first time
-
-  module _ (before : List Passed) (links : WireLinks) where
-    abbrev Tells : NspValue → Type 0
-    Tells m =
-        Says own far (λ words. ⊥) m
-        ⊎ (((n : ℕ) → said own far before n ≡ true → IsAtLeast queues own far (Q own far before) links.links n)
-        × ((least : ℕ) → AreKnown queues own far least (Q own far before) links.links → SaysAlone own far (AreOnward least (Q own far before)) m))
-
-    first_alone : (num : ℕ) (m : NspValue) → IsInRange m → (calls_of before far ≤ 1 → Tells m) → SaysAlone own far (NoBack before num) m
-    first_alone num (DataAck dst src acks) small tells = λ e f few. go e f (tells few)
-      where
-        go : src ≡ own → dst ≡ far → Tells (DataAck dst src acks) → list_any (is_back (told before) num own far) acks ≡ false
-        go e f (inl never) = absurd (never e f)
-        go e f (inr is) = none_back queues own far before num links acks small.0 is.0 (λ least known. is.1 least known e f)
-    first_alone num (DataSegment s) small tells = tt
-    first_alone num (LinkService interrupt dst src rest) small tells = tt
-    first_alone num (OtherDataAck dst src rest) small tells = tt
-    first_alone num (ConnectAck dst) small tells = tt
-    first_alone num (NoOperation rest) small tells = tt
-    first_alone num (ConnectInitiate retransmitted src services info segsize user_data) small tells = tt
-    first_alone num (ConnectConfirm dst src services info segsize user_data) small tells = tt
-    first_alone num (DisconnectInitiate dst src reason user_data) small tells = tt
-    first_alone num (DisconnectConfirm dst src reason) small tells = tt
-
-    first_claim : (m : MessageValue) (packet : Carried) → content (body_of m) ≡ Ok (Some packet) → (calls_of before far ≤ 1 → Tells packet.message) →
-        Claim before m
-    first_claim (Data flags resp num body) packet is tells = λ other at.
-        let same : other ≡ packet = one_packet other packet (sym at ∙ is) in
-        subst (λ (x : Carried). SaysAlone own far (NoBack before num) x.message) (sym same)
-        (first_alone num packet.message (content_in_range body packet is) tells)
-      where
-        one_packet : (x y : Carried) → ◌≡◌ {A = Result (Option Carried) StepRefusal} (Ok (Some x)) (Ok (Some y)) → x ≡ y
-        one_packet x y e = cc
-    first_claim (Ack flags resp) packet is tells = tt
-    first_claim (Nak flags reason resp) packet is tells = tt
-    first_claim (Rep flags num) packet is tells = tt
-    first_claim (Strt flags) packet is tells = tt
-    first_claim (Stack flags) packet is tells = tt
 
   -- ---- what is known after it
 
@@ -289,10 +149,10 @@ module _ (queues : Queues) (head : Head) (own far : ℕ) where
         IsPhase queues own far (Q own far before) (calls_of before far) (calls_in coming far) (said own far before) x.links) (sym same)
         (is.phase few)))
 
-    pub sent_state : (made : WireLayers) → IsSent queues s m made → Right queues head before made → Claim before m × State after made coming
+    pub sent_state : (made : WireLayers) → IsSent queues s m made → Right queues head before made → Claim queues own far before m × State after made coming
     sent_state made (Again st sent old) right =
         let gone = sends_again (Gone before) s.station st.0 m st.1 sent old is.numbered in (
-          again_claim before m gone,
+          again_claim queues own far before m gone,
           quiet made refl right (sent_numbered st sent) (λ n e. again n gone (said_cases n e)),
         )
       where
@@ -301,7 +161,7 @@ module _ (queues : Queues) (head : Head) (own far : ℕ) where
         again n gone (inl now) = shown_gone (λ num. said_in) before m own far n gone now
         again n gone (inr was) = was
     sent_state made (NoMessage st sent new none) right = (
-      nothing_claim before m none,
+      nothing_claim queues own far before m none,
       quiet made refl right (label_numbered (Gone after) st.0 _ (sent_numbered st sent)) (λ n e. nothing n (said_cases n e)),
     )
       where
@@ -309,7 +169,7 @@ module _ (queues : Queues) (head : Head) (own far : ℕ) where
         nothing n (inl now) = absurd (shown_none (λ num. said_in) m own far n none now)
         nothing n (inr was) = was
     sent_state made (First st packet sent_links sent new at made_by) right = (
-      first_claim before s.links m packet at (λ few. tells (is.phase few)),
+      first_claim queues own far before s.links m packet at (λ few. tells (is.phase few)),
       own_state made right (label_numbered (Gone after) st.0 _ (sent_numbered st sent)) (λ few. next (is.phase few)),
     )
       where
@@ -323,7 +183,7 @@ module _ (queues : Queues) (head : Head) (own far : ℕ) where
         follows least = sent_follows (N queues head before) queues own far s.links least packet small sent_links made_by
 
         tells : IsPhase queues own far (Q own far before) (calls_of before far) (calls_in coming far) (said own far before) s.links.links →
-            Tells before s.links packet.message
+            Tells queues own far before s.links packet.message
         tells (inl b) = inl (none_of b.none)
         tells (inr a) = inr (
           a.all,

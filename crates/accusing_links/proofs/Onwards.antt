@@ -15,21 +15,13 @@ use Rattle.accusing_links.specs.Segments.{Shown, shown_in, passed_of, segment_of
 use Rattle.accusing_links.specs.Back.{said_in, alone_in, sent_of, told, was_said, is_back}
 use Rattle.accusing_links.proofs.Passing.{AsNumbers}
 use Rattle.accusing_links.proofs.Sends.{IsOnward, AreOnward}
-use Rattle.accusing_links.proofs.Follows.{AreKnown}
+use Rattle.accusing_links.proofs.AllFollow.{AreKnown}
 use Rattle.accusing_links.proofs.FollowSteps.{not_both}
 use Rattle.accusing_links.proofs.FollowSaid.{IsAtLeast}
 
 pub or_cases : (a b : Bool) → (a || b) ≡ true → (a ≡ true) ⊎ (b ≡ true)
 or_cases true b e = inl refl
 or_cases false b e = inr e
-
-pub or_second : (a b : Bool) → b ≡ true → (a || b) ≡ true
-or_second true b e = refl
-or_second false b e = e
-
-pub or_one : (a b : Bool) → a ≡ true → (a || b) ≡ true
-or_one true b e = refl
-or_one false b e = absurd cc
 
 pub not_false : (b : Bool) → not b ≡ true → b ≡ false
 not_false true e = absurd cc

@@ -15,7 +15,8 @@ use Rattle.accusing.specs.Placing.{Passed, Own, Other}
 use Rattle.accusing_links.specs.Segments.{Shown, packet_in, shown_by}
 use Rattle.accusing_links.specs.Back.{is_word, said_in, call_of, bit, calls_of, sent_in, sent_of}
 use Rattle.accusing_links.proofs.Passing.{or_same}
-use Rattle.accusing_links.proofs.Follows.{NoneTo, OneTo, AreFollowed, none_followed, one_followed, known_followed}
+use Rattle.accusing_links.proofs.FarLinks.{NoneTo, OneTo}
+use Rattle.accusing_links.proofs.AllFollow.{AreFollowed, none_followed, one_followed, known_followed}
 use Rattle.accusing_links.proofs.FollowSteps.{IsPlain, IsConnect, not_both}
 use Rattle.accusing_links.proofs.FollowSends.{Says}
 use Rattle.accusing_links.proofs.FollowSaid.{IsAtLeast, AreAtLeast}

@@ -1,6 +1,5 @@
 -- What every link of a node has received passed for it; and what becomes of that by each effect of a row.
-use Rattle.std.proofs.Common.{◌≡◌, ℕ, Bool, true, false, Option, Some, List, [], ◌∷◌, ◌++◌, map, zero, suc, fold, subst}
-use Rattle.std.specs.Prelude.{slice_get, slice_set}
+use Rattle.std.proofs.Common.{◌≡◌, ℕ, Bool, true, false, Option, Some, List, fold}
 use Rattle.dna_links.specs.declared.port.Phase.{Phase}
 use Rattle.dna_links.specs.declared.port.Phase.TheVariants.{Calling, Called}
 use Rattle.dna_links.specs.declared.queue.Queues.{Queues}
@@ -9,12 +8,13 @@ use Rattle.dna_links.specs.declared.queue.Said.{Said}
 use Rattle.dna_links.specs.LookUps.{is_live}
 use Rattle.dna_links.specs.Links.{LinkOf, LinkTruth}
 use Rattle.dna_links.specs.Queues.{keeps_numbers, further, goes_on, goes_to, ends_by_message, drops, requeued, lets_go}
-use Rattle.dna_links.specs.Queues.{booted_link, forgotten, drops_segments}
+use Rattle.dna_links.specs.Queues.{forgotten, drops_segments}
 use Rattle.dna_links.specs.Table.{Effect, OpenHere, GiveAddress, Connect, GoTo, End, Drop, EndAll, Say, Settle, Keep, HandIn, TakeSegment, TakeAcks}
 use Rattle.dna_links.specs.WireSegments.{WireSegments, wire_segments}
 use Rattle.dna_links.specs.LinkBook.{blank, does}
 use Rattle.accusing_links.proofs.Received.{Received, weaker, empty_received, ends_received, acks_received}
-use Rattle.accusing_links.proofs.Rows.{Each, all_done}
+use Rattle.accusing_links.proofs.Each.{Each, each_more}
+use Rattle.accusing_links.proofs.Rows.{all_done}
 
 -- a link that nothing may have come on yet
 abbrev pub is_early : Phase → Bool
@@ -147,37 +147,15 @@ module _ (Q : Numbers) (queues : Queues) where
   -- ---- all links of a node
 
   abbrev pub AreRight : List (LinkOf WireSegments) → Type 0
-  AreRight [] = Unit {0}
-  AreRight (l ∷ links) = Is l × AreRight links
-
-  pub right_at : (links : List (LinkOf WireSegments)) (n : ℕ) (l : LinkOf WireSegments) → AreRight links → slice_get links n ≡ Some l → Is l
-  right_at [] n l are at = absurd cc
-  right_at (first ∷ links) zero l are at = let same : first ≡ l = cc in subst Is same are.0
-  right_at (first ∷ links) (suc n) l are at = right_at links n l are.1 at
-
-  pub right_pushed : (links : List (LinkOf WireSegments)) (l : LinkOf WireSegments) → AreRight links → Is l → AreRight (links ++ l ∷ [])
-  right_pushed [] l are is = (is, tt)
-  right_pushed (first ∷ links) l are is = (are.0, right_pushed links l are.1 is)
-
-  pub right_changed : (links : List (LinkOf WireSegments)) (n : ℕ) (l : LinkOf WireSegments) → AreRight links → Is l → AreRight (slice_set links n l)
-  right_changed [] n l are is = tt
-  right_changed (first ∷ links) zero l are is = (is, are.1)
-  right_changed (first ∷ links) (suc n) l are is = (are.0, right_changed links n l are.1 is)
+  AreRight links = Each Is links
 
   -- an address that is given again
   pub forgotten_right : (q : Queues) (l : LinkOf WireSegments) → Is (forgotten wire_segments q l)
   forgotten_right Without l = none_received (forgotten wire_segments Without l) (empty_received Never)
   forgotten_right With l = none_received (forgotten wire_segments With l) (empty_received Never)
 
-  pub right_booted : (links : List (LinkOf WireSegments)) → AreRight (map (booted_link wire_segments queues) links)
-  right_booted [] = tt
-  right_booted (l ∷ links) = (forgotten_right queues (drops wire_segments queues l), right_booted links)
-
 -- where more passed
 module _ (Q R : Numbers) (queues : Queues) (more : (own far number : ℕ) → Q own far number → R own far number) where
   pub right_more : (links : List (LinkOf WireSegments)) → AreRight Q queues links → AreRight R queues links
-  right_more [] are = tt
-  right_more (l ∷ links) are = (
-    record { early = are.0.early; both = λ own far e f. weaker 0 (Q own far) (R own far) _ _ _ (more own far) (are.0.both own far e f) },
-    right_more links are.1,
-  )
+  right_more = each_more (IsLinkRight Q) (IsLinkRight R) (λ l is.
+      record { early = is.early; both = λ own far e f. weaker 0 (Q own far) (R own far) _ _ _ (more own far) (is.both own far e f) })

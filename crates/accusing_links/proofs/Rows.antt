@@ -17,7 +17,7 @@ use Rattle.dna_links.specs.declared.queue.Said.TheVariants.{OfRun, Disconnect}
 use Rattle.dna_links.specs.declared.tag.LinkTag.{LinkTag}
 use Rattle.dna_links.specs.SegmentBook.{Sending}
 use Rattle.dna_links.specs.Links.{LinkOf, LinkTruth, Carried, at_number, on_link, number_of, with_link, with_segments, begun, changed}
-use Rattle.dna_links.specs.Queues.{with_queue, further, requeued, shows_by, settled, forgotten, booted}
+use Rattle.dna_links.specs.Queues.{with_queue, further, requeued, shows_by, settled, forgotten, booted, booted_link}
 use Rattle.dna_links.specs.Table.{Ask, Finds, FindsEither, FindsNone, FindsInUse, KnowsInUse, InPhase, InTurn, OrElse, ForThisLink, OfThisPair}
 use Rattle.dna_links.specs.Table.{Delivers, SendsSegment, SendsAcks, Effect, GiveAddress, EndAll, Say, Settle, Row, Asks}
 use Rattle.dna_links.specs.Table.{user_row, arrival_row}
@@ -28,13 +28,10 @@ use Rattle.dna_links.specs.WireLinks.{WireLinks, wire_links_user, wire_links_sen
 use Rattle.dna_links.specs.LinkBook.{blank, does, kept, others, after, of_none}
 use Rattle.dna_links.specs.Sending.{Sent}
 use Rattle.dna_links.specs.Arriving.{PartnerRule}
+use Rattle.accusing_links.proofs.Each.{Each, each_at, each_pushed, each_changed, each_mapped}
 use Rattle.accusing_links.proofs.Answered.{Good, good_check}
 use Rattle.accusing_links.proofs.Finds.{either_there}
 use Rattle.accusing_links.proofs.Along.{OfRow, SentBy, Otherwise, Shows, RowShows, SendShows, Sends, user_by_row, comes_by_row, sent_good}
-
-abbrev pub Each : {X : Type 0} → (X → Type 0) → List X → Type 0
-Each P [] = Unit {0}
-Each P (x ∷ xs) = P x × Each P xs
 
 -- what a node does not remember without queues is left out
 pub kept_each : (Calm : Effect → Type 0) (q : Queues) (effects : List Effect) → Each Calm effects → Each Calm (kept q effects)
@@ -53,7 +50,8 @@ module _ (queues : Queues) (truth : LinkTruth (Unit {0})) (Calm : Effect → Typ
   all_done l (effect ∷ effects) calm is = all_done (does queues wire_segments truth l effect) effects calm.1 (one l effect calm.0 is)
 
 -- what came for it was acted on
-pub settled_by : (Is : LinkOf WireSegments → Type 0) (waits : Option Phase) (l : LinkOf WireSegments) → Is (requeued wire_segments None l.queue.said l) →
+pub settled_by : (Is : LinkOf WireSegments → Type 0) (waits : Option Phase) (l : LinkOf WireSegments) →
+    Is (requeued wire_segments None l.queue.said l) →
     ((said : Said) → Is (requeued wire_segments l.queue.waits (further said l.queue.said) l)) → Is l → Is (settled wire_segments waits l)
 settled_by Is (Some phase) l settles says is = settles
 settled_by Is None l settles says is = go l.port.phase
@@ -177,6 +175,22 @@ module _ (queues : Queues) (s : WireLinks) (Now : OfRow) where
         Good (λ (made : Sent WireSegments (Unit {0})). Are made.links) (wire_links_sent queues s packet)
     sent_kept packet shows = sent_good queues s packet (λ es. Now) (λ made. Are made.links) after_kept shows
 
+-- ---- a law of each link by itself
+
+module _ (queues : Queues) (s : WireLinks) (Is : LinkOf WireSegments → Type 0) (are : Each Is s.links) where
+  pub each_keeps : ((l : LinkOf WireSegments) → Is l → Is (forgotten wire_segments queues l)) →
+      ((l : LinkOf WireSegments) → Is l → Is (settled wire_segments l.queue.waits l)) →
+      ((l : LinkOf WireSegments) → Is l → Is (booted_link wire_segments queues l)) → AreKept queues s (λ n. Is) (λ x. Each Is x.links)
+  each_keeps forgets settles boots = record {
+    same = are;
+    there = λ n l at. each_at Is s.links n l are at;
+    forgets = λ n l. forgets l;
+    settles = λ n l. settles l;
+    pushes = λ x l all is. each_pushed Is x.links l all is;
+    changes = λ x n l all is. each_changed Is x.links n l all is;
+    boots = each_mapped Is (booted_link wire_segments queues) boots s.links are;
+  }
+
 -- ---- what holds whatever the row is
 
 abbrev pub Any : {X : Type 0} → X → Type 0
@@ -198,7 +212,9 @@ module _ (queues : Queues) (s : WireLinks) (X : Type 0) (x : X) where
   }
 
   pub always_shows : (truth : LinkTruth (Unit {0})) (row : Row) → RowShows queues truth s (λ es n l. X) row
-  always_shows truth (Asks asks effects) = calm_shows queues s (λ n l. X) Any Any truth (always_kept truth) (Asks asks effects) (any effects, any asks)
+  always_shows truth (Asks asks effects) =
+      calm_shows queues s (λ n l. X) Any Any truth (always_kept truth) (Asks asks effects) (any effects, any asks)
 
   pub always_sends : (truth : LinkTruth (Unit {0})) (row : Row) → SendShows queues truth s (λ es n l. X) row
-  always_sends truth (Asks asks effects) = calm_sends queues s (λ n l. X) Any Any truth (always_kept truth) (Asks asks effects) (any effects, any asks)
+  always_sends truth (Asks asks effects) =
+      calm_sends queues s (λ n l. X) Any Any truth (always_kept truth) (Asks asks effects) (any effects, any asks)

@@ -13,7 +13,8 @@ use Rattle.accusing_links.specs.Segments.{Shown, packet_in, shown_in, shown_by}
 use Rattle.accusing_links.specs.Back.{sent_in, sent_of, call_of}
 use Rattle.accusing_links.proofs.Numbered.{Bears}
 use Rattle.accusing_links.proofs.Phases.{sent_own}
-use Rattle.accusing_links.proofs.Onwards.{Gone, or_one}
+use Rattle.accusing_links.proofs.Onwards.{Gone}
+use Rattle.accusing_links.proofs.Follows.{or_first}
 
 module _ (of : ℕ → NspValue → Shown) where
   -- what a data unit shows
@@ -60,7 +61,7 @@ shown_call (Stack flags) packet a b c is = absurd cc
 pub gone_now : (before : List Passed) (unit : List ℕ) (m : MessageValue) → reading unit ≡ Sound m → Bears (Gone (before ++ Own unit ∷ [])) m
 gone_now before unit (Data flags resp num body) read = λ of a b c e.
     sent_own of before unit a b c
-    ∙ or_one (sent_in of (reading unit) a b c) _ (subst (λ (r : ReadingValue). sent_in of r a b c ≡ true) (sym read) e)
+    ∙ or_first (sent_in of (reading unit) a b c) _ (subst (λ (r : ReadingValue). sent_in of r a b c ≡ true) (sym read) e)
 gone_now before unit (Ack flags resp) read = tt
 gone_now before unit (Nak flags reason resp) read = tt
 gone_now before unit (Rep flags num) read = tt

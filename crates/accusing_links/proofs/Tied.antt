@@ -1,7 +1,6 @@
 -- A link gets its far address by a CI or a CC that passed, and tells by its phase which; one that a CI began gets into RUN by a message of RUN that
 -- passed; its own address is not 0; what becomes of that by each effect of a row.
-use Rattle.std.proofs.Common.{◌≡◌, ℕ, Bool, true, false, ◌||◌, Some, List, [], ◌∷◌, ◌++◌, map, zero, suc, fold, refl, sym, subst}
-use Rattle.std.specs.Prelude.{slice_get, slice_set}
+use Rattle.std.proofs.Common.{◌≡◌, ℕ, Bool, true, false, ◌||◌, Some, List, fold, refl, sym, subst}
 use Rattle.dna_links.specs.declared.port.Phase.{Phase}
 use Rattle.dna_links.specs.declared.port.Phase.TheVariants.{Calling, Called, Confirming, Running, Disconnecting, Ended}
 use Rattle.dna_links.specs.declared.port.Port.{Port}
@@ -10,13 +9,14 @@ use Rattle.dna_links.specs.declared.queue.Queues.{Queues}
 use Rattle.dna_links.specs.declared.queue.Queues.TheVariants.{Without, With}
 use Rattle.dna_links.specs.LookUps.{is_live, is_in}
 use Rattle.dna_links.specs.Links.{LinkOf, LinkTruth}
-use Rattle.dna_links.specs.Queues.{reached, goes_on, goes_to, ends_by_message, drops, booted_link, forgotten}
+use Rattle.dna_links.specs.Queues.{reached, goes_on, goes_to, ends_by_message, drops, forgotten}
 use Rattle.dna_links.specs.Table.{Effect, OpenHere, GiveAddress, Connect, GoTo, End, Drop, EndAll, Say, Settle, Keep, HandIn, TakeSegment, TakeAcks}
 use Rattle.dna_links.specs.WireSegments.{WireSegments, wire_segments}
 use Rattle.dna_links.specs.LinkBook.{blank, does}
 use Rattle.accusing_links.specs.Connects.{CI, CC, RUN}
 use Rattle.accusing_links.proofs.Named.{IsAddress}
-use Rattle.accusing_links.proofs.Rows.{Each, all_done}
+use Rattle.accusing_links.proofs.Each.{Each, each_more}
+use Rattle.accusing_links.proofs.Rows.{all_done}
 use Rattle.accusing_links.proofs.RightLinks.{Numbers}
 
 -- a link in this phase was opened here, or begun by a CI
@@ -192,7 +192,7 @@ module _ (P : Numbers) (queues : Queues) where
   ended_tied Without l is = over_tied l (ends_by_message wire_segments Without l) refl refl refl is
   ended_tied With l is = over_tied l (ends_by_message wire_segments With l) refl refl refl is
 
-  dropped_tied : (q : Queues) (l : LinkOf WireSegments) → Is l → Is (drops wire_segments q l)
+  pub dropped_tied : (q : Queues) (l : LinkOf WireSegments) → Is l → Is (drops wire_segments q l)
   dropped_tied Without l is = over_tied l (drops wire_segments Without l) refl refl refl is
   dropped_tied With l is = over_tied l (drops wire_segments With l) refl refl refl is
 
@@ -253,41 +253,17 @@ module _ (P : Numbers) (queues : Queues) where
   -- ---- all links of a node
 
   abbrev pub AreTied : List (LinkOf WireSegments) → Type 0
-  AreTied [] = Unit {0}
-  AreTied (l ∷ links) = Is l × AreTied links
-
-  pub tied_at : (links : List (LinkOf WireSegments)) (n : ℕ) (l : LinkOf WireSegments) → AreTied links → slice_get links n ≡ Some l → Is l
-  tied_at [] n l are at = absurd cc
-  tied_at (first ∷ links) zero l are at = let same : first ≡ l = cc in subst Is same are.0
-  tied_at (first ∷ links) (suc n) l are at = tied_at links n l are.1 at
-
-  pub tied_pushed : (links : List (LinkOf WireSegments)) (l : LinkOf WireSegments) → AreTied links → Is l → AreTied (links ++ l ∷ [])
-  tied_pushed [] l are is = (is, tt)
-  tied_pushed (first ∷ links) l are is = (are.0, tied_pushed links l are.1 is)
-
-  pub tied_changed : (links : List (LinkOf WireSegments)) (n : ℕ) (l : LinkOf WireSegments) → AreTied links → Is l → AreTied (slice_set links n l)
-  tied_changed [] n l are is = tt
-  tied_changed (first ∷ links) zero l are is = (is, are.1)
-  tied_changed (first ∷ links) (suc n) l are is = (are.0, tied_changed links n l are.1 is)
-
-  pub tied_booted : (links : List (LinkOf WireSegments)) → AreTied links → AreTied (map (booted_link wire_segments queues) links)
-  tied_booted [] are = tt
-  tied_booted (l ∷ links) are =
-      (forgotten_tied queues (drops wire_segments queues l) (dropped_tied queues l are.0), tied_booted links are.1)
+  AreTied links = Each Is links
 
 -- where more passed
 module _ (P R : Numbers) (queues : Queues) (more : (msgflg own far : ℕ) → P msgflg own far → R msgflg own far) where
   pub tied_more : (links : List (LinkOf WireSegments)) → AreTied P queues links → AreTied R queues links
-  tied_more [] are = tt
-  tied_more (l ∷ links) are = (
-    record {
-      by_call = λ e far f. more CI 0 far (are.0.by_call e far f);
-      by_answer = λ e own far f g. more CC own far (are.0.by_answer e own far f g);
-      begun = are.0.begun;
-      on_accept = are.0.on_accept;
-      not_yet = are.0.not_yet;
-      by_run = λ e r own far f g. more RUN own far (are.0.by_run e r own far f g);
-      address = are.0.address;
-    },
-    tied_more links are.1,
-  )
+  tied_more = each_more (Is P queues) (Is R queues) (λ l is. record {
+    by_call = λ e far f. more CI 0 far (is.by_call e far f);
+    by_answer = λ e own far f g. more CC own far (is.by_answer e own far f g);
+    begun = is.begun;
+    on_accept = is.on_accept;
+    not_yet = is.not_yet;
+    by_run = λ e r own far f g. more RUN own far (is.by_run e r own far f g);
+    address = is.address;
+  })

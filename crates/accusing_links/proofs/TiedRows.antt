@@ -3,12 +3,14 @@ use Rattle.std.proofs.Common.{◌≡◌, ℕ, Some}
 use Rattle.std.specs.Prelude.{slice_get}
 use Rattle.dna_links.specs.declared.queue.Queues.{Queues}
 use Rattle.dna_links.specs.Links.{LinkOf, LinkTruth}
-use Rattle.dna_links.specs.WireSegments.{WireSegments}
+use Rattle.dna_links.specs.Queues.{drops}
+use Rattle.dna_links.specs.WireSegments.{WireSegments, wire_segments}
 use Rattle.dna_links.specs.WireLinks.{WireLinks}
 use Rattle.accusing_links.proofs.RightLinks.{Numbers}
+use Rattle.accusing_links.proofs.Each.{each_at}
 use Rattle.accusing_links.proofs.Along.{OfRow}
-use Rattle.accusing_links.proofs.Rows.{Any, IsKept, AreKept, settled_by}
-use Rattle.accusing_links.proofs.Tied.{Is, blank_tied, IsCalm, does_tied, AreTied, tied_at, tied_pushed, tied_changed, forgotten_tied, tied_booted}
+use Rattle.accusing_links.proofs.Rows.{Any, IsKept, AreKept, settled_by, each_keeps}
+use Rattle.accusing_links.proofs.Tied.{Is, blank_tied, dropped_tied, forgotten_tied, IsCalm, does_tied, AreTied}
 
 module _ (P : Numbers) (queues : Queues) where
   abbrev pub Now : OfRow
@@ -19,7 +21,7 @@ module _ (P : Numbers) (queues : Queues) where
 
   module _ (s : WireLinks) (are : AreTied P queues s.links) where
     pub there : (n : ℕ) (l : LinkOf WireSegments) → slice_get s.links n ≡ Some l → Is P queues l
-    there n l at = tied_at P queues s.links n l are at
+    there n l at = each_at (Is P queues) s.links n l are at
 
     pub keeps : (truth : LinkTruth (Unit {0})) → IsKept queues s Now Any (IsCalm P queues) truth
     keeps truth = record {
@@ -32,12 +34,7 @@ module _ (P : Numbers) (queues : Queues) where
     }
 
     pub all_keep : AreKept queues s Now Are
-    all_keep = record {
-      same = are;
-      there = there;
-      forgets = λ n l is. forgotten_tied P queues queues l is;
-      settles = λ n l is. settled_by (Is P queues) l.queue.waits l is (λ said. is) is;
-      pushes = λ x l tied is. tied_pushed P queues x.links l tied is;
-      changes = λ x n l tied is. tied_changed P queues x.links n l tied is;
-      boots = tied_booted P queues s.links are;
-    }
+    all_keep =
+        each_keeps queues s (Is P queues) are (λ l is. forgotten_tied P queues queues l is)
+        (λ l is. settled_by (Is P queues) l.queue.waits l is (λ said. is) is)
+        (λ l is. forgotten_tied P queues queues (drops wire_segments queues l) (dropped_tied P queues queues l is))

@@ -63,8 +63,8 @@ module _ (P : Numbers) (queues : Queues) (s : WireLinks) (are : AreTied P queues
     calm row is = calm_shows queues s (Now P queues) Any (IsCalm P queues) truth (keeps P queues s are truth) row is
 
     -- a called link gets an address
-    addressed : (own : ℕ) (l : LinkOf WireSegments) → IsAddress own → l.port.opened ≡ false → has_run l.port.phase l.queue.ran ≡ false → Is P queues l →
-        Is P queues (record l { port = record l.port { own = Some own } })
+    addressed : (own : ℕ) (l : LinkOf WireSegments) → IsAddress own → l.port.opened ≡ false → has_run l.port.phase l.queue.ran ≡ false →
+        Is P queues l → Is P queues (record l { port = record l.port { own = Some own } })
     addressed own l names called not is = record {
       by_call = is.by_call;
       by_answer = λ e o far f g. absurd cc;

@@ -13,7 +13,8 @@ use Rattle.dna_links.specs.WireSegments.{WireSegments, wire_segments, delivers}
 use Rattle.dna_links.specs.WireSegments as wire
 use Rattle.dna_links.specs.WireLinks.{WireLinks}
 use Rattle.dna_links.specs.LinkBook.{blank, does, after}
-use Rattle.accusing_links.proofs.Rows.{Each, IsKept, AreKept}
+use Rattle.accusing_links.proofs.Each.{Each}
+use Rattle.accusing_links.proofs.Rows.{IsKept, AreKept}
 use Rattle.accusing_links.proofs.Rows as rows
 use Rattle.accusing_segments.proofs.LinkRows.{IsQuiet}
 use Rattle.accusing_segments.proofs.Places.{pushed_place, set_place, mapped_place}

@@ -3,16 +3,17 @@ use Rattle.std.proofs.Common.{◌≡◌, ℕ, Option, Some}
 use Rattle.std.specs.Prelude.{slice_get}
 use Rattle.dna_links.specs.declared.queue.Queues.{Queues}
 use Rattle.dna_links.specs.Links.{LinkOf, LinkTruth, with_segments}
-use Rattle.dna_links.specs.Queues.{with_queue, further}
+use Rattle.dna_links.specs.Queues.{with_queue, further, drops}
 use Rattle.dna_links.specs.Table.{Ask, SendsSegment}
 use Rattle.dna_links.specs.WireSegments.{WireSegments, wire_segments}
 use Rattle.dna_links.specs.WireLinks.{WireLinks}
+use Rattle.accusing_links.proofs.Each.{each_at}
 use Rattle.accusing_links.proofs.Along.{OfRow}
-use Rattle.accusing_links.proofs.Rows.{IsKept, AreKept, settled_by}
+use Rattle.accusing_links.proofs.Rows.{IsKept, AreKept, settled_by, each_keeps}
 use Rattle.accusing_segments.proofs.Gave.{never, delivers_gave}
 use Rattle.accusing_segments.proofs.SegmentSends.{acks_sent}
-use Rattle.accusing_segments.proofs.RightLinks.{Links, IsLinkRight, blank_right, IsCalm, does_right, AreRight, right_at, right_pushed}
-use Rattle.accusing_segments.proofs.RightLinks.{right_changed, forgotten_right, right_booted, requeued_right}
+use Rattle.accusing_segments.proofs.RightLinks.{Links, IsLinkRight, blank_right, IsCalm, does_right, AreRight, dropped_right, forgotten_right}
+use Rattle.accusing_segments.proofs.RightLinks.{requeued_right}
 
 -- no segment is sent
 abbrev pub IsQuiet : Ask → Type 0
@@ -35,7 +36,7 @@ module _ (Q : Links) (queues : Queues) where
 
   module _ (s : WireLinks) (are : AreRight Q queues s.links) where
     pub there : (n : ℕ) (l : LinkOf WireSegments) → slice_get s.links n ≡ Some l → Is l
-    there n l at = right_at Q queues s.links n l are at
+    there n l at = each_at Is s.links n l are at
 
     pub keeps : (truth : LinkTruth (Unit {0})) → IsKept queues s Now IsQuiet (IsCalm Q queues) truth
     keeps truth = record {
@@ -56,13 +57,8 @@ module _ (Q : Links) (queues : Queues) where
     }
 
     pub all_keep : AreKept queues s Now Are
-    all_keep = record {
-      same = are;
-      there = there;
-      forgets = λ n l is. forgotten_right Q queues queues l is;
-      settles = λ n l is. settled_by Is l.queue.waits l (requeued_right Q queues _ l.queue.said l is)
-          (λ said. requeued_right Q queues l.queue.waits (further said l.queue.said) l is) is;
-      pushes = λ x l right is. right_pushed Q queues x.links l right is;
-      changes = λ x n l right is. right_changed Q queues x.links n l right is;
-      boots = right_booted Q queues s.links are;
-    }
+    all_keep =
+        each_keeps queues s Is are (λ l is. forgotten_right Q queues queues l is)
+        (λ l is. settled_by Is l.queue.waits l (requeued_right Q queues _ l.queue.said l is)
+        (λ said. requeued_right Q queues l.queue.waits (further said l.queue.said) l is) is)
+        (λ l is. forgotten_right Q queues queues (drops wire_segments queues l) (dropped_right Q queues queues l is))

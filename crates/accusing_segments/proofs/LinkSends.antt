@@ -17,13 +17,14 @@ use Rattle.dna_links.specs.WireLinks.{WireLinks, wire_links_sent}
 use Rattle.dna_links.specs.LinkBook.{kept, of_none}
 use Rattle.dna_links.specs.Sending.{Sent}
 use Rattle.accusing_links.proofs.Answered.{Good}
+use Rattle.accusing_links.proofs.Each.{each_at}
 use Rattle.accusing_links.proofs.Finds.{IsInUse, HasBoth, the_link}
 use Rattle.accusing_links.proofs.Along.{SentBy, SendShows, sent_tells}
 use Rattle.accusing_links.proofs.Rows.{kept_each, IsCalmRow, calm_sends, sent_kept, always_sends}
 use Rattle.accusing_links.proofs.RightLinks.{is_early}
 use Rattle.accusing_segments.proofs.Gave.{More, Gave}
 use Rattle.accusing_segments.proofs.SegmentSends.{IsFine, Gone, sent_left}
-use Rattle.accusing_segments.proofs.RightLinks.{Links, IsLinkRight, IsCalm, all_right, AreRight, right_at, right_more}
+use Rattle.accusing_segments.proofs.RightLinks.{Links, IsLinkRight, IsCalm, all_right, AreRight, right_more}
 use Rattle.accusing_segments.proofs.LinkRows.{IsQuiet, Now, Are, keeps, all_keep, gap_right}
 
 -- a segment in what is sent was sent
@@ -65,7 +66,7 @@ module _ (Q R : Links) (queues : Queues) (more : (own far : ℕ) → More (Q own
     both = the_link segment.srcaddr segment.dstaddr n l used
 
     old : IsLinkRight Q l
-    old = right_at Q queues s.links n l are used.there
+    old = each_at (IsLinkRight Q) s.links n l are used.there
 
     left : (f : WireSegments) → SentBy segment l f → IsFine (Q segment.srcaddr segment.dstaddr) segment × Gave (R segment.srcaddr segment.dstaddr) f
     left f made =
@@ -82,7 +83,7 @@ module _ (Q R : Links) (queues : Queues) (more : (own far : ℕ) → More (Q own
           let same_own : segment.srcaddr ≡ o = cc in
           let same_far : segment.dstaddr ≡ x = cc in
           subst (λ (y : ℕ). Gave (R y x) f) same_own (subst (λ (y : ℕ). Gave (R segment.srcaddr y) f) same_far now);
-      room = (right_at R queues s.links n l grown used.there).room;
+      room = (each_at (IsLinkRight R) s.links n l grown used.there).room;
     }
 
   -- ---- any message
@@ -95,7 +96,7 @@ module _ (Q R : Links) (queues : Queues) (more : (own far : ℕ) → More (Q own
 
   right_shows : (m : NspValue) → IsInRange m → HasGone R m → SendShows queues (of_none queues wire_segments) s (λ es. Now R queues) (sending_row m)
   right_shows (DataSegment segment) small gone = λ n l used turn f gap made.
-      let late = turn_late Q queues l (right_at Q queues s.links n l are used.there) turn in
+      let late = turn_late Q queues l (each_at (IsLinkRight Q) s.links n l are used.there) turn in
       let now = now_right segment small.1 gone n l used late f (left segment small.1 gone n l used f made).1 in
       all_right R queues (of_none queues wire_segments) (with_queue (record l.queue { gap = gap }) (with_segments f l))
       (kept queues (Say OfRun ∷ Keep ∷ [])) (kept_each (IsCalm R queues) queues (Say OfRun ∷ Keep ∷ []) (tt, (tt, tt)))

@@ -106,8 +106,8 @@ module _ (Q : Links) (queues : Queues) (s : WireLinks) (are : AreRight Q queues 
       acted n l found =
           let acts = acted_on own far n l s found in
           let run = in_run queues l acts.0 in
-          taken_right (goes_to wire_segments queues Running l) (goes_right Q queues queues Running l refl (there Q queues s are n l found.there)) run.late
-          (run.own ∙ acts.1.0) (run.far ∙ acts.1.1)
+          taken_right (goes_to wire_segments queues Running l) (goes_right Q queues queues Running l refl (there Q queues s are n l found.there))
+          run.late (run.own ∙ acts.1.0) (run.far ∙ acts.1.1)
 
     message_shows : (m : NspValue) → IsInRange m → HasCome Q m → Shown (arrival_row m)
     message_shows (DataSegment segment) small came = (

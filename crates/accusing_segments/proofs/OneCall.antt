@@ -19,6 +19,7 @@ use Rattle.dna_links.specs.Table.{Effect, OpenHere, GiveAddress, Connect, GoTo, 
 use Rattle.dna_links.specs.WireSegments.{WireSegments, wire_segments, delivers}
 use Rattle.dna_links.specs.WireSegments as wire
 use Rattle.dna_links.specs.LinkBook.{blank, does}
+use Rattle.accusing_links.proofs.Ports.{dropped_port, forgotten_port, ended_port, booted_port, goes_own, goes_far, goes_called}
 use Rattle.accusing_segments.proofs.Gave.{Passings, never, Gave}
 use Rattle.accusing_segments.proofs.SentPieces.{Shown, Fits, delivers_fit, acks_sent_fit}
 use Rattle.accusing_segments.proofs.EachLink.{IsPlain, Stays}
@@ -79,53 +80,6 @@ no_or : (a b : Bool) → (a || b) ≡ false → (a ≡ false) × (b ≡ false)
 no_or true b e = absurd cc
 no_or false b e = (refl, e)
 
-dropped_port : (q : Queues) (l : LinkOf WireSegments) → (drops wire_segments q l).port ≡ record l.port { phase = Ended }
-dropped_port Without l = refl
-dropped_port With l = refl
-
-forgotten_port : (q : Queues) (l : LinkOf WireSegments) → (forgotten wire_segments q l).port ≡ record l.port { own = None }
-forgotten_port Without l = refl
-forgotten_port With l = refl
-
-ended_port : (q : Queues) (l : LinkOf WireSegments) → (ends_by_message wire_segments q l).port ≡ record l.port { phase = Ended }
-ended_port Without l = refl
-ended_port With l = refl
-
-pub goes_own : (q : Queues) (phase : Phase) (l : LinkOf WireSegments) → (goes_to wire_segments q phase l).port.own ≡ l.port.own
-goes_own Without phase l = refl
-goes_own With phase l = go (is_live l.port.phase)
-  where
-    go : (b : Bool) → (goes_on wire_segments b phase l).port.own ≡ l.port.own
-    go true = refl
-    go false = refl
-
-pub goes_far : (q : Queues) (phase : Phase) (l : LinkOf WireSegments) → (goes_to wire_segments q phase l).port.far ≡ l.port.far
-goes_far Without phase l = refl
-goes_far With phase l = go (is_live l.port.phase)
-  where
-    go : (b : Bool) → (goes_on wire_segments b phase l).port.far ≡ l.port.far
-    go true = refl
-    go false = refl
-
-pub goes_called : (q : Queues) (phase : Phase) (l : LinkOf WireSegments) → is_in Called phase ≡ false →
-    is_in Called (goes_to wire_segments q phase l).port.phase ≡ true → is_in Called l.port.phase ≡ true
-goes_called Without phase l late e = absurd cc
-goes_called With phase l late e = go (is_live l.port.phase) e
-  where
-    go : (b : Bool) → is_in Called (goes_on wire_segments b phase l).port.phase ≡ true → is_in Called l.port.phase ≡ true
-    go true f = absurd cc
-    go false f = f
-
--- a live link goes to another phase, and no more
-pub goes_live : (q : Queues) (phase : Phase) (l : LinkOf WireSegments) → is_live l.port.phase ≡ true →
-    ((goes_to wire_segments q phase l).port.phase ≡ phase) × ((goes_to wire_segments q phase l).segments ≡ l.segments)
-goes_live Without phase l live = (refl, refl)
-goes_live With phase l live = go (is_live l.port.phase) live
-  where
-    go : (b : Bool) → b ≡ true → ((goes_on wire_segments b phase l).port.phase ≡ phase) × ((goes_on wire_segments b phase l).segments ≡ l.segments)
-    go true e = (refl, refl)
-    go false e = absurd cc
-
 -- a link that gave nothing
 pub fresh_small : (f : WireSegments) → Gave never f → length f.variables.outstanding ≤ REACH
 fresh_small f gave = go (leb 1 (gave.acked + length f.variables.outstanding)) refl
@@ -154,10 +108,6 @@ dropped_kept With S Q l used (inr fits) = go l.port.opened
         ⊎ Fits S Q.word (drops_segments wire_segments opened l.segments)
     go true = inr fits
     go false = inl (refl, inl refl)
-
-booted_port : (q : Queues) (l : LinkOf WireSegments) → (booted_link wire_segments q l).port ≡ record l.port { phase = Ended; own = None }
-booted_port Without l = refl
-booted_port With l = refl
 
 -- `one` is the number of the link that the CI or the CC was for, if it came; `S` what was sent from its own address to its far one
 module _ (queues : Queues) (own far : ℕ) (S : Shown) (Q : Passings) (one : Option ℕ) where

@@ -16,14 +16,16 @@ use Rattle.dna_links.specs.WireLinks.{WireLinks, wire_links_arrived}
 use Rattle.dna_links.specs.LinkBook.{blank, does, after}
 use Rattle.dna_links.specs.Arriving.{PartnerRule}
 use Rattle.accusing_links.proofs.Answered.{Good, good_check}
+use Rattle.accusing_links.proofs.Each.{each_at}
 use Rattle.accusing_links.proofs.Finds.{in_live, calling_at}
 use Rattle.accusing_links.proofs.Along.{RowShows, comes_by_row}
+use Rattle.accusing_links.proofs.Ports.{goes_live}
 use Rattle.accusing_links.proofs.LinkSteps.{calling_early}
 use Rattle.accusing_segments.proofs.SentPieces.{Shown, Fits}
 use Rattle.accusing_segments.proofs.Places.{pushed_place}
-use Rattle.accusing_segments.proofs.RightLinks.{Links, IsLinkRight, AreRight, right_at}
+use Rattle.accusing_segments.proofs.RightLinks.{Links, IsLinkRight, AreRight}
 use Rattle.accusing_segments.proofs.EachLink.{IsAt, after_stays}
-use Rattle.accusing_segments.proofs.OneCall.{goes_live, IsMine, stays}
+use Rattle.accusing_segments.proofs.OneCall.{IsMine, stays}
 use Rattle.accusing_segments.proofs.OneCallSteps.{IsCall, AllMine, from_none, nothing_sent}
 
 module _ (queues : Queues) (own far : ℕ) (S : Shown) (Qs : Links) where
@@ -35,7 +37,7 @@ module _ (queues : Queues) (own far : ℕ) (S : Shown) (Qs : Links) where
     to_links es n l k = after queues wire_segments s es n l k
 
     right : (n : ℕ) (l : LinkOf WireSegments) → slice_get s.links n ≡ Some l → IsLinkRight Qs l
-    right n l at = right_at Qs queues s.links n l old at
+    right n l at = each_at (IsLinkRight Qs) s.links n l old at
 
     -- ---- the first call comes
 

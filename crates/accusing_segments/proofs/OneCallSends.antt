@@ -1,4 +1,5 @@
--- What is sent keeps it that one link alone has these addresses; and a segment of it agrees with what was sent under its number, or may be acknowledged.
+-- What is sent keeps it that one link alone has these addresses; and a segment of it agrees with what was sent under its number, or may be
+-- acknowledged.
 use Rattle.std.proofs.Common.{◌≡◌, ℕ, ◌<◌, Bool, true, false, ◌&&◌, eqb, Option, Some, None, List, [], ◌∷◌, refl, sym, subst, ap, ◌∙◌, not}
 use Rattle.std.proofs.Common.{eqb-true, fold, ◌⊎◌, inl, inr}
 use Rattle.std.specs.Prelude.{slice_get, slice_set}
@@ -20,6 +21,7 @@ use Rattle.dna_links.specs.WireLinks.{WireLinks, wire_links_sent}
 use Rattle.dna_links.specs.LinkBook.{blank, kept, after, of_none, does}
 use Rattle.dna_links.specs.Sending.{Sent}
 use Rattle.accusing_links.proofs.Answered.{Good}
+use Rattle.accusing_links.proofs.Each.{each_at}
 use Rattle.accusing_links.proofs.Finds.{IsInUse, HasBoth, in_live, the_link, called_by}
 use Rattle.accusing_links.proofs.Along.{OfRow, SentBy, SendShows, lasting_sends, sent_good, sent_tells}
 use Rattle.accusing_links.proofs.Rows.{calm_sends, always_sends}
@@ -29,7 +31,7 @@ use Rattle.accusing_segments.proofs.Places.{set_place}
 use Rattle.accusing_segments.proofs.SegmentSends.{Gone}
 use Rattle.accusing_segments.proofs.SentPieces.{Shown, Covered, Fits}
 use Rattle.accusing_segments.proofs.SentAgain.{Agrees, sent_kept}
-use Rattle.accusing_segments.proofs.RightLinks.{Links, AreRight, right_at}
+use Rattle.accusing_segments.proofs.RightLinks.{Links, IsLinkRight, AreRight}
 use Rattle.accusing_segments.proofs.LinkRows.{IsQuiet}
 use Rattle.accusing_segments.proofs.LinkSends.{turn_late}
 use Rattle.accusing_segments.proofs.EachLink.{IsPlain, ArePlain, IsAt, All, all_done, keeps, after_stays}
@@ -132,7 +134,7 @@ module _ (queues : Queues) (own far : ℕ) (S T : Shown) (Qs : Links) (one : Opt
         both = the_link segment.srcaddr segment.dstaddr n l used
 
         late : is_early l.port.phase ≡ false
-        late = turn_late Qs queues l (right_at Qs queues s.links n l old used.there) turn
+        late = turn_late Qs queues l (each_at (IsLinkRight Qs) s.links n l old used.there) turn
 
         not_called : is_in Called l.port.phase ≡ true → ⊥
         not_called c = let no = late_not_called l.port.phase late in absurd cc
@@ -182,7 +184,7 @@ module _ (queues : Queues) (own far : ℕ) (S T : Shown) (Qs : Links) (one : Opt
               go (inr is) = is
 
           gave : Gave (Qs own far) l.segments
-          gave = (right_at Qs queues s.links n l old used.there).both own far at_own at_far
+          gave = (each_at (IsLinkRight Qs) s.links n l old used.there).both own far at_own at_far
 
           more : (i : ℕ) (p : Piece) → T i p → S i p ⊎ ((i ≡ segment.number) × (p ≡ piece_of segment))
           more i p sent = go (grows i p sent)

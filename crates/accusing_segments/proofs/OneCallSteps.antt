@@ -19,18 +19,20 @@ use Rattle.dna_links.specs.WireLinks.{WireLinks, wire_links_user, wire_links_arr
 use Rattle.dna_links.specs.LinkBook.{blank, of_none}
 use Rattle.dna_links.specs.Arriving.{PartnerRule}
 use Rattle.accusing_links.proofs.Answered.{Good}
+use Rattle.accusing_links.proofs.Each.{each_at}
 use Rattle.accusing_links.proofs.Finds.{Found, IsInUse, either_there, in_live, connected_live, acted_on, called_by, calling_at, ends_live}
 use Rattle.accusing_links.proofs.Along.{RowShows}
 use Rattle.accusing_links.proofs.Rows.{IsCalmRow, calm_shows, user_kept, arrived_kept}
 use Rattle.accusing_links.proofs.RightLinks.{is_early}
+use Rattle.accusing_links.proofs.Ports.{goes_own, goes_far, goes_live}
 use Rattle.accusing_links.proofs.LinkSteps.{called_early}
 use Rattle.accusing_segments.proofs.Gave.{Gave}
 use Rattle.accusing_segments.proofs.SentPieces.{Shown, Fits, acks_fit, segment_fits}
-use Rattle.accusing_segments.proofs.RightLinks.{Links, IsLinkRight, goes_right, AreRight, right_at}
+use Rattle.accusing_segments.proofs.RightLinks.{Links, IsLinkRight, goes_right, AreRight}
 use Rattle.accusing_segments.proofs.LinkRows.{IsQuiet}
 use Rattle.accusing_segments.proofs.LinkSteps.{HasCome}
 use Rattle.accusing_segments.proofs.EachLink.{IsPlain, IsAt, All, keeps, all_keep}
-use Rattle.accusing_segments.proofs.OneCall.{used_live, IsDead, goes_own, goes_far, goes_live, fresh_small, IsMine, none_mine, stays}
+use Rattle.accusing_segments.proofs.OneCall.{used_live, IsDead, fresh_small, IsMine, none_mine, stays}
 use Rattle.accusing_segments.proofs.OneCall.{goes_mine, ended_mine, dropped_mine}
 use Rattle.accusing_segments.proofs.Used.{found_used, not_live, late_not_called}
 
@@ -55,7 +57,7 @@ module _ (queues : Queues) (own far : ℕ) (S : Shown) (Qs : Links) where
 
   module _ (s : WireLinks) (old : AreRight Qs queues s.links) where
     right : (n : ℕ) (l : LinkOf WireSegments) → slice_get s.links n ≡ Some l → IsLinkRight Qs l
-    right n l at = right_at Qs queues s.links n l old at
+    right n l at = each_at (IsLinkRight Qs) s.links n l old at
 
     -- a link that gave nothing, where nothing was sent
     pub nothing_sent : (l : LinkOf WireSegments) → IsLinkRight Qs l → is_early l.port.phase ≡ true → ((n : ℕ) (p : _) → S n p → ⊥) →
@@ -126,7 +128,8 @@ module _ (queues : Queues) (own far : ℕ) (S : Shown) (Qs : Links) where
 
         -- ---- what comes, and is no call
 
-        confirmed : (dst src segsize : ℕ) → ((dst ≡ own) × (src ≡ far) → ⊥) → (n : ℕ) (l : LinkOf WireSegments) → is_in Calling l.port.phase ≡ true → l.port.own ≡ Some dst →
+        confirmed : (dst src segsize : ℕ) → ((dst ≡ own) × (src ≡ far) → ⊥) → (n : ℕ) (l : LinkOf WireSegments) →
+            is_in Calling l.port.phase ≡ true → l.port.own ≡ Some dst →
             Mine one n (goes_to wire_segments queues Running
             (record l { port = record l.port { far = Some src }; partner = truth.tag.link; segsize = segsize }))
         confirmed dst src segsize other n l calling at =
@@ -198,7 +201,8 @@ module _ (queues : Queues) (own far : ℕ) (S : Shown) (Qs : Links) where
           λ n l found.
               let acts = acted_on segment.dstaddr segment.srcaddr n l s found in
               taken segment.dstaddr segment.srcaddr (takes_segment segment tt)
-              (λ f gave is. segment_fits S (Qs segment.dstaddr segment.srcaddr) segment f small.0 came gave is) n l acts.0 acts.1.0 acts.1.1 found.there,
+              (λ f gave is. segment_fits S (Qs segment.dstaddr segment.srcaddr) segment f small.0 came gave is) n l acts.0 acts.1.0 acts.1.1
+              found.there,
         )
         message_shows (DataAck dst src acks) small came other = (
           none,

@@ -17,7 +17,8 @@ use Rattle.dna_links.specs.WireSegments.{WireSegments, wire_segments}
 use Rattle.dna_links.specs.LinkBook.{blank, does}
 use Rattle.accusing_links.proofs.RightLinks.{is_early}
 use Rattle.accusing_segments.proofs.Gave.{Passings, never, More, Gave, gave_more, never_less, empty_gave, ends_gave}
-use Rattle.accusing_links.proofs.Rows.{Each, all_done}
+use Rattle.accusing_links.proofs.Each.{Each, each_more}
+use Rattle.accusing_links.proofs.Rows.{all_done}
 
 -- what passed of each link: by its own address and the far one
 abbrev pub Links : Type 1
@@ -192,22 +193,7 @@ module _ (Q : Links) (queues : Queues) where
   -- ---- all links of a node
 
   abbrev pub AreRight : List (LinkOf WireSegments) → Type 0
-  AreRight [] = Unit {0}
-  AreRight (l ∷ links) = Is l × AreRight links
-
-  pub right_at : (links : List (LinkOf WireSegments)) (n : ℕ) (l : LinkOf WireSegments) → AreRight links → slice_get links n ≡ Some l → Is l
-  right_at [] n l are at = absurd cc
-  right_at (first ∷ links) zero l are at = let same : first ≡ l = cc in subst Is same are.0
-  right_at (first ∷ links) (suc n) l are at = right_at links n l are.1 at
-
-  pub right_pushed : (links : List (LinkOf WireSegments)) (l : LinkOf WireSegments) → AreRight links → Is l → AreRight (links ++ l ∷ [])
-  right_pushed [] l are is = (is, tt)
-  right_pushed (first ∷ links) l are is = (are.0, right_pushed links l are.1 is)
-
-  pub right_changed : (links : List (LinkOf WireSegments)) (n : ℕ) (l : LinkOf WireSegments) → AreRight links → Is l → AreRight (slice_set links n l)
-  right_changed [] n l are is = tt
-  right_changed (first ∷ links) zero l are is = (is, are.1)
-  right_changed (first ∷ links) (suc n) l are is = (are.0, right_changed links n l are.1 is)
+  AreRight links = Each Is links
 
   -- an address that is given again
   pub forgotten_right : (q : Queues) (l : LinkOf WireSegments) → Is l → Is (forgotten wire_segments q l)
@@ -216,20 +202,11 @@ module _ (Q : Links) (queues : Queues) where
   forgotten_right With l is =
       none_gave (forgotten wire_segments With l) (empty_gave never) (λ e. (is.early e).ran) (room_forgotten Q l.port l.segsize is.room)
 
-  pub right_booted : (links : List (LinkOf WireSegments)) → AreRight links → AreRight (map (booted_link wire_segments queues) links)
-  right_booted [] are = tt
-  right_booted (l ∷ links) are =
-      (forgotten_right queues (drops wire_segments queues l) (dropped_right queues l are.0), right_booted links are.1)
-
 -- where more passed
 module _ (Q R : Links) (queues : Queues) (more : (own far : ℕ) → More (Q own far) (R own far)) where
   pub right_more : (links : List (LinkOf WireSegments)) → AreRight Q queues links → AreRight R queues links
-  right_more [] are = tt
-  right_more (l ∷ links) are = (
-    record {
-      early = are.0.early;
-      both = λ own far e f. gave_more (Q own far) (R own far) l.segments (more own far) (are.0.both own far e f);
-      room = λ own far how e n fits. (more own far).room n (are.0.room own far how e n fits);
-    },
-    right_more links are.1,
-  )
+  right_more = each_more (IsLinkRight Q) (IsLinkRight R) (λ l is. record {
+    early = is.early;
+    both = λ own far e f. gave_more (Q own far) (R own far) l.segments (more own far) (is.both own far e f);
+    room = λ own far how e n fits. (more own far).room n (is.room own far how e n fits);
+  })
