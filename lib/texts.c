@@ -8,7 +8,7 @@
 #include <stdlib.h>
 #include <string.h>
 
-enum { NO_SUCH_TEXT = 2, NOT_OPENED = 9, NO_MEMORY = 12, NOT_SO = 22, NO_NUMBER_LEFT = 24 }; /* errno */
+enum { NO_SUCH_TEXT = 2, NOT_OPENED = 9, NO_MEMORY = 12, NOT_SO = 22, NO_NUMBER_LEFT = 24, NO_SEEK = 29 }; /* errno */
 enum { TO_WRITE = 3, TO_CREATE = 0100, TO_EMPTY = 01000 };                                  /* flags of open */
 enum { FROM_BEGINNING, FROM_HERE, FROM_END };                                              /* of lseek */
 enum { NO_ARGUMENT = -1, NO_ROOM = -2 };
@@ -150,6 +150,7 @@ int64_t ddcap_lseek(int32_t number, int64_t by, int32_t from) {
   if (!opened) return failed(NOT_OPENED);
   int64_t place = by + (from == FROM_BEGINNING ? 0 : (int64_t)(from == FROM_HERE ? opened->place : opened->text->length));
   if (place < 0 || (uint64_t)place > PTRDIFF_MAX) return failed(NOT_SO);
+  if (from == FROM_BEGINNING && now->most_readings && opened->text->readings++ == now->most_readings) return failed(NO_SEEK);
   opened->place = (size_t)place;
   return place;
 }
@@ -162,6 +163,7 @@ int64_t ddcap_read(int32_t number, void *to, uint64_t room) {
   size_t count = room < left ? (size_t)room : left;
   if (count) memcpy(to, opened->text->bytes + opened->place, count);
   opened->place += count;
+  if (now->was_read) now->was_read(count);
   return (int64_t)count;
 }
 

@@ -15,6 +15,7 @@ struct text {
   size_t length;
   size_t room; /* of the run's own bytes */
   bool is_written;
+  size_t readings; /* how often it was begun again */
 };
 
 struct opened {
@@ -31,6 +32,8 @@ struct run {
   size_t text_count;
   struct opened opened[MOST_OPENED]; /* by the numbers that the program calls them */
   int32_t last_error;
+  size_t most_readings;           /* a text that was begun again so often can't be once more; 0: it always can */
+  void (*was_read)(size_t count); /* told of each read, by how many bytes; NULL: nobody is told */
 };
 
 /* Gives a text under a name. Its bytes stay the caller's, who keeps them as long as the run; false where there is no memory, or no place. */

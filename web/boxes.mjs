@@ -6,6 +6,7 @@ export const $ = selector => document.querySelector(selector);
 
 const EMPTY = {a: 'Drop its capture here, or choose it', b: 'Its capture, if you have it'};
 const NOT_NEEDED = 'Not needed: the other text is of both ends';
+const NAMED = /\.([ab])(\.gz|\.txt)?$/i;
 const TITLES = {a: 'One end', b: 'The other end', wire: 'What passed on the line, of both ends', script: 'A script of both ends'};
 // Of each side a file, as {name, bytes}, or null.
 export const ends = {a: null, b: null};
@@ -32,10 +33,26 @@ function describe(side) {
   box.querySelector('.head').textContent = begin.split('\n').slice(0, 3).map(line => line.slice(0, 48)).join('\n');
 }
 
-// Puts one file where it belongs: on the side on which it was dropped, or where there is room.
+// The side that a file's name tells by its ending, .a or .b; or undefined.
+const named = file => (file.name.match(NAMED) || [])[1]?.toLowerCase();
+
+// Puts two files on the sides that their names tell, or in their order.
+export function placeBoth(first, second) {
+  const isTurned = named(first) !== named(second) && (named(first) === 'b' || named(second) === 'a');
+  put('a', isTurned ? second : first);
+  put('b', isTurned ? first : second);
+}
+
+// Puts one file where it belongs: on the side on which it was dropped, or that its name tells, or where there is room.
 export function place(file, side) {
-  if (isWhole(file.bytes) || (!side && ends.a && ends.b)) put('a', file), put('b', null);
-  else put(side || (ends.a ? 'b' : 'a'), file);
+  const told = named(file), free = told || (ends.a ? 'b' : 'a'), there = ends[free];
+  if (isWhole(file.bytes)) put('a', file), put('b', null);
+  else if (side) put(side, file);
+  else if (ends.a && ends.b) put(opposite(told || 'a'), null), put(told || 'a', file);
+  else {
+    if (there && named(there) !== told) put(opposite(told), there);
+    put(free, file);
+  }
   for (const other of ['a', 'b']) {
     if (ends[other] && ends[other] !== file && isWhole(ends[other].bytes)) put(other, null);
   }

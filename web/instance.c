@@ -5,13 +5,19 @@
 
 #define EXPORTED(name) __attribute__((export_name(#name))) name
 
-static struct run run;
+/* What the page is told while a run goes on: how many bytes were read. */
+__attribute__((import_module("page"), import_name("was_read"))) void was_read(size_t count);
+
+static struct run run = {.was_read = was_read};
 
 /* The address of so many bytes that the caller fills, or 0. */
 void *EXPORTED(room)(size_t size) { return malloc(size ? size : 1); }
 
 /* Gives a text under a name that ends with a NUL. 0 where there is no memory, or no place. */
 int32_t EXPORTED(give)(const char *name, const unsigned char *bytes, size_t length) { return give_text(&run, name, bytes, length); }
+
+/* From now on each text can be begun again so often, and then no more, as if it came through a pipe. */
+void EXPORTED(begin_again_at_most)(size_t times) { run.most_readings = times; }
 
 /* Runs the program on words that each end with a NUL, and answers its status; -1 where there is no memory. */
 int32_t EXPORTED(run_words)(const char *words, size_t length) {

@@ -13,11 +13,12 @@ export class Judge {
   }
 
   // What the program answers to these words over these texts: {status, out, err, made}. An Error where the run breaks off, or is stopped.
-  ask(words, texts) {
+  // Meanwhile `told` is called with how many bytes were read; `again` is how often each text can be begun again (always, where it is left out).
+  ask(words, texts, {told = () => {}, again} = {}) {
     return new Promise((answer, fail) => {
       const number = ++this.#asked;
-      this.#waiting.set(number, {answer, fail});
-      this.#begun().postMessage({number, words, texts});
+      this.#waiting.set(number, {answer, fail, told});
+      this.#begun().postMessage({number, words, texts, again});
     });
   }
 
@@ -29,24 +30,27 @@ export class Judge {
     this.#waiting.clear();
   }
 
-  get isBusy() {
-    return this.#waiting.size > 0;
-  }
-
   #begun() {
     if (this.#worker) return this.#worker;
     this.#worker = new Worker(this.#url);
-    this.#worker.onmessage = ({data}) => {
-      const {answer, fail} = this.#waiting.get(data.number);
-      this.#waiting.delete(data.number);
-      if (data.broken) fail(new Error(data.broken));
-      else answer(data);
-    };
+    this.#worker.onmessage = ({data}) => this.#take(data);
     this.#worker.onerror = event => {
       for (const {fail} of this.#waiting.values()) fail(new Error(event.message || 'the worker failed'));
       this.#waiting.clear();
     };
     this.#worker.postMessage({module: this.#module});
     return this.#worker;
+  }
+
+  #take({number, read, broken, ...answered}) {
+    const it = this.#waiting.get(number);
+    if (!it) return;
+    if (read !== undefined) {
+      it.told(read);
+      return;
+    }
+    this.#waiting.delete(number);
+    if (broken) it.fail(new Error(broken));
+    else it.answer(answered);
   }
 }

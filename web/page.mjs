@@ -1,12 +1,14 @@
-// The page: what is dropped or chosen, the verdict, and the tabs. The program answers; this shows it.
-import {$, ends, leaveWhole, place, put} from './boxes.mjs';
+// The page: what is dropped or chosen, and how it is to be judged. The program answers; `answer` shows it.
+import {TITLE, answer, shownSession} from './answer.mjs';
+import {$, ends, leaveWhole, place, placeBoth, put} from './boxes.mjs';
 import {Judge} from './judge.mjs';
 import {MOST_BYTES, cured, seeming, unpaired} from './seeming.mjs';
 import {Session} from './session.mjs';
-import {ALLOWED_FOR, accusedOf, conditionsOf, faultOf, printed} from './telling.mjs';
-import {brokenView, causeView, countsView, coverView, faultView, keyView, link, make, pictureView, textView, whyView} from './views.mjs';
+import {printed} from './telling.mjs';
+import {make} from './views.mjs';
+import {beginWork, endWork, stopWork} from './work.mjs';
 
-let judge = null, round = 0, current = null, isPlainLeft = false;
+let judge = null, aside = null, round = 0, isPlainLeft = false;
 
 // ---- the judge
 
@@ -24,7 +26,8 @@ async function begin() {
     return [`This browser has no ${missing.join(' and no ')}, so nothing can be judged in it.`, 'A browser of 2023 or later has it.'];
   }
   try {
-    judge = new Judge(await unpacked(), $('#worker').textContent);
+    const module = await unpacked();
+    [judge, aside] = [0, 1].map(() => new Judge(module, $('#worker').textContent));
     const help = printed(await judge.ask(['help'], {}));
     $('#version').textContent = help.split(':')[0].replace(/^ddcap /, '');
     return [];
@@ -55,16 +58,18 @@ async function take(list, side) {
     return;
   }
   let read;
+  beginWork({what: `reading ${files.map(file => file.name).join(' and ')}`, size: taken});
   try {
     read = await Promise.all(files.map(async file => ({name: file.name, bytes: new Uint8Array(await file.arrayBuffer())})));
   } catch (error) {
+    endWork();
     note(`${files[0].name} could not be read: ${error.message}`, 'A folder can’t be dropped; drop the files in it.');
     return;
   }
   pressed(null);
-  if (read.length === 2) put('a', read[0]), put('b', read[1]);
+  if (read.length === 2) placeBoth(...read);
   else place(read[0], side);
-  await judgeGiven(list.length > 2 ? [`Of ${list.length} files the first two were taken: ${read[0].name} as a, ${read[1].name} as b.`] : []);
+  await judgeGiven(list.length > 2 ? [`Of ${list.length} files the first two were taken: ${ends.a.name} as a, ${ends.b.name} as b.`] : []);
 }
 
 // ---- judging
@@ -94,20 +99,18 @@ function offer(isWire) {
   if (!isWire && isPlainLeft) plain.checked = true, isPlainLeft = false;
 }
 
-async function judgeGiven(notes = []) {
-  const leaving = leaveWhole(), mine = ++round;
+async function judgeGiven(notes = [], isFocused = true) {
+  const leaving = leaveWhole(), mine = ++round, from = document.activeElement;
   const given = ['a', 'b'].filter(side => ends[side]).map(side => ({side, ...ends[side], seems: seeming(ends[side].bytes)}));
-  note(...notes, ...leaving, ...(given.length === 2 ? unpaired(given) : []));
-  between('');
-  offer(given.some(({seems}) => seems.kind === 'wire'));
-  if (!given.length) {
-    $('#result').hidden = true;
-    return;
-  }
   const odd = given.find(({seems}) => seems.kind === 'strange');
-  if (odd) {
+  note(...notes, ...leaving, ...(given.length === 2 ? unpaired(given) : []));
+  rest();
+  offer(given.some(({seems}) => seems.kind === 'wire'));
+  if (!given.length || odd) {
     $('#result').hidden = true;
-    strange(odd.side, ends[odd.side], odd.seems);
+    document.title = TITLE;
+    if (odd) strange(odd.side, ends[odd.side], odd.seems);
+    if (odd && isFocused) focus($('#note'), from);
     return;
   }
   const lacks = await ready;
@@ -115,123 +118,44 @@ async function judgeGiven(notes = []) {
     note(...lacks);
     return;
   }
-  if (judge.isBusy) judge.stop();
-  const session = new Session(judge, given.map(it => ({...it, kind: it.seems.kind})), $('[name=choice]:checked').value), begun = performance.now();
-  between('busy');
-  $('#status').textContent = 'judging';
+  const session = new Session(judge, aside, given.map(it => ({...it, kind: it.seems.kind})), $('[name=choice]:checked').value);
   try {
-    const verdict = await session.judged();
-    const why = session.answer.status === 1 ? await session.why() : null;
-    if (mine !== round) return;
-    show(session, verdict, why, performance.now() - begun);
+    await answer(session, {isCurrent: () => mine === round, focused: box => isFocused && focus(box, from), judgeQueued});
   } catch (error) {
-    if (mine !== round) return;
-    between('');
+    if (mine === round) broken(error);
+  }
+}
+
+// Nothing is judged any more, and nothing is said to be. What runs has its worker ended.
+function rest() {
+  for (const each of [judge, aside]) if (each && each.isBusy) each.stop();
+  endWork();
+  $('.between').className = 'between';
+}
+
+// No verdict was come to: that was stopped, or there is no memory.
+function broken(error) {
+  const hadFocus = endWork(), isStopped = error.message === 'stopped';
+  rest();
+  $('#result').hidden = true;
+  if (isStopped) note('Judging was stopped.', make('button', {type: 'button', onclick: () => judgeGiven()}, 'Judge them again'));
+  else {
     note(`Judging stopped: ${error.message}.`,
       'Where the texts are large, this page may lack the memory; the program itself needs a few MB: ./ddcap check A B.');
   }
+  if (hadFocus) $('#note').focus();
 }
 
-function between(kind) {
-  $('.between').className = 'between ' + kind;
-}
-
-// ---- showing
-
-function show(session, verdict, why, took) {
-  current = session;
-  const refused = why && why.refusal && why.refusal.refused;
-  const accused = why && !session.isWire ? accusedOf(why) : null;
-  const fault = faultOf(session.answer), at = session.source ? null : refused || fault;
-  const box = $('#verdict');
-  box.className = 'verdict ' + verdict.kind;
-  box.querySelector('h2').textContent = verdict.title;
-  box.querySelector('.first').textContent = verdict.first === verdict.title.toLowerCase() ? '' : verdict.first;
-  const meaning = [verdict.meaning, verdict.kind !== 'fault' && ALLOWED_FOR[session.choice], ...conditionsOf(printed(session.answer))];
-  box.querySelector('.meaning').textContent = meaning.filter(Boolean).join(' ');
-  const broken = fault ? [brokenView(fault, session)] : [];
-  box.querySelector('.parts').replaceChildren(...(refused ? causeView(why, session, verdict.first, judgeQueued) : broken));
-  between(verdict.kind);
-  for (const {side} of session.given) {
-    $('#end-' + side).classList.toggle('good', verdict.kind === 'good');
-    $('#end-' + side).classList.toggle('bad', Boolean(at && (session.isOneEnd || at.side === side)));
-  }
-  $('#saved').replaceChildren(...Object.entries(session.made).map(([side, bytes]) => link(`Save the capture of ${side}`, `line.${side}`, bytes)));
-  $('#status').textContent = `${verdict.title}. ${verdict.first}${accused ? `. Accused: ${accused}` : ''}`;
-  const size = session.given.reduce((sum, {bytes}) => sum + bytes.length, 0);
-  $('#took').textContent = `${size.toLocaleString('en')} bytes, judged in ${took.toFixed(0)} ms.`;
-  $('#result').hidden = false;
-  showTabs(session, verdict, why);
-  const isStill = matchMedia('(prefers-reduced-motion: reduce)').matches, {top, bottom} = box.getBoundingClientRect();
-  const first = $('#note').hidden ? box : $('#note');
-  if (bottom > innerHeight && top > innerHeight / 4) first.scrollIntoView({behavior: isStill ? 'auto' : 'smooth'});
-  globalThis.shown = {status: session.answer.status, out: session.answer.out, err: session.answer.err, verdict, took};
-}
-
-function tabsOf(session, verdict, why) {
-  const {names, options} = session, isPair = names.length === 2, tabs = [], fault = faultOf(session.answer);
-  const text = async (isHere, ...words) => [textView(printed(await session.ask(...words)), isHere)];
-  if (why) tabs.push(['Why', async () => whyView(why)]);
-  else if (verdict.kind === 'good') tabs.push(['Counts', async () => countsView(printed(session.answer))]);
-  else if (fault) {
-    tabs.push(['What is wrong', async () => faultView(fault, session)]);
-  }
-  if (verdict.kind !== 'fault') {
-    const isRefused = row => row.includes('<== refused'), at = why && why.refusal ? why.refusal.refused : {};
-    if (isPair) {
-      tabs.push(['Picture', async () => {
-        const {made} = await session.ask('draw', ...names, ...options, '--svg', 'svg');
-        const saving = make('p', {}, link('Save the picture', 'ddcap.svg', made.svg, 'image/svg+xml'));
-        return [pictureView(made.svg), saving, keyView()];
-      }]);
-      tabs.push(['Ladder', async () => [...await text(isRefused, 'draw', ...names, ...options), keyView()]]);
-      tabs.push(['Rules met', async () => coverView(printed(await session.ask('cover', ...names, ...options)))]);
-    }
-    for (const side of names) {
-      const isIt = row => side === at.side && row.startsWith(at.record + ' ');
-      tabs.push([isPair ? `Records of ${side}` : 'Records', () => text(isIt, 'show', side)]);
-    }
-  }
-  tabs.push(['As printed', async () => [textView((why && why.text) || printed(session.answer))]]);
-  return tabs;
-}
-
-function showTabs(session, verdict, why) {
-  const tabs = tabsOf(session, verdict, why);
-  const buttons = tabs.map(([name], i) =>
-    make('button', {type: 'button', id: 'tab-' + i, role: 'tab', 'aria-controls': 'panel', onclick: () => choose(i)}, name));
-  const choose = async (i, isMoved) => {
-    buttons.forEach((button, k) => {
-      button.setAttribute('aria-selected', k === i);
-      button.tabIndex = k === i ? 0 : -1;
-    });
-    $('#panel').setAttribute('aria-labelledby', 'tab-' + i);
-    if (isMoved) buttons[i].focus();
-    let parts;
-    try {
-      parts = await tabs[i][1]();
-    } catch (error) {
-      parts = [make('p', {}, `This could not be shown: ${error.message}`)];
-    }
-    if (session === current && buttons[i].getAttribute('aria-selected') === 'true') $('#panel').replaceChildren(...parts);
-  };
-  $('.tabs').onkeydown = event => {
-    const at = buttons.indexOf(document.activeElement), count = buttons.length;
-    const to = {ArrowRight: (at + 1) % count, ArrowLeft: (at + count - 1) % count, Home: 0, End: count - 1}[event.key];
-    if (at < 0 || to === undefined) return;
-    event.preventDefault();
-    choose(to, true);
-  };
-  $('.tabs').replaceChildren(...buttons);
-  choose(0);
+// The focus goes to what was answered, unless it went elsewhere meanwhile.
+function focus(box, from) {
+  if ([document.body, from, $('#stop')].includes(document.activeElement)) box.focus({preventScroll: true});
 }
 
 // ---- the controls
 
-// What a button in the verdict offers. The button goes, so the choice that it made has the focus.
+// What a button in the verdict offers.
 function judgeQueued() {
   $('#queued').checked = true;
-  $('#queued').focus({preventScroll: true});
   judgeGiven();
 }
 
@@ -244,6 +168,7 @@ function example(name, given) {
   for (const [side, text] of Object.entries(given.texts)) {
     put(side, {name: name + (given.ending || '.' + side), bytes: new TextEncoder().encode(text)});
   }
+  $('#' + given.choice).checked = true;
   pressed(name);
   judgeGiven();
 }
@@ -269,19 +194,21 @@ document.ondrop = event => {
 for (const choice of document.querySelectorAll('[name=choice]')) {
   choice.onchange = () => {
     isPlainLeft = false;
-    judgeGiven();
+    judgeGiven([], false);
   };
 }
 $('#swap').onclick = () => {
   const {a, b} = ends;
   put('a', b), put('b', a);
-  judgeGiven();
+  judgeGiven([], false);
 };
 $('#clear').onclick = () => {
   put('a', null), put('b', null);
   pressed(null);
-  judgeGiven();
+  judgeGiven([], false);
+  $('#end-a input').focus({preventScroll: true});
 };
+$('#stop').onclick = stopWork;
 const examples = JSON.parse($('#given').textContent);
 $('#examples').append(...Object.entries(examples).map(([name, given]) =>
   make('button', {type: 'button', 'aria-pressed': 'false', onclick: () => example(name, given)}, given.title)));
@@ -289,4 +216,4 @@ $('#examples').append(...Object.entries(examples).map(([name, given]) =>
 const wanted = decodeURIComponent(location.hash.slice(1));
 if (examples[wanted]) example(wanted, examples[wanted]);
 
-globalThis.ddcap = {ready, ask: (words, texts) => judge.ask(words, texts), texts: () => current.texts}; // for tools/tests/test_page
+globalThis.ddcap = {ready, ask: (words, texts) => judge.ask(words, texts), texts: () => shownSession().texts}; // for tools/tests/test_page

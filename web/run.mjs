@@ -1,8 +1,10 @@
 // Runs the compiled program on texts that are given as bytes: run(module, words, texts) answers {status, out, err, made}. `module` is the compiled
 // WebAssembly module, `texts` has bytes by the names that the words have, and `made` likewise what the program wrote. Each run has an instance of
-// its own, so that nothing is left of one for the next. Throws where there is no memory for the texts.
-export function run(module, words, texts) {
-  const it = new WebAssembly.Instance(module, {}).exports;
+// its own, so that nothing is left of one for the next. Throws where there is no memory for the texts. `wasRead` is called with how many bytes each
+// read gave; `again` is how often each text can be begun again, after which it is as one that came through a pipe.
+export function run(module, words, texts, {again, wasRead = () => {}} = {}) {
+  const it = new WebAssembly.Instance(module, {page: {was_read: count => wasRead(count >>> 0)}}).exports;
+  if (again) it.begin_again_at_most(again);
   const put = bytes => {
     const at = it.room(bytes.length) >>> 0;
     if (at === 0) throw new RangeError('out of memory');

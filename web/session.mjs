@@ -7,10 +7,15 @@ const OPTIONS = {plain: [], queued: ['--queued'], line: ['--line']};
 // Reasons that a queue may explain, as `why` has them. It says so of a pair, and not of one end.
 const MAY_BE_QUEUED = [18, 19, 20, 21];
 
+// A text is read a second time to find what is near a refused record; each small change would be one time more.
+const WITHOUT_CHANGES = 1;
+
 export class Session {
-  // `given` are {side, name, bytes, kind}, as `seeming` tells the kind; `choice` is one of OPTIONS, and of a wire text not `plain`.
-  constructor(judge, given, choice) {
+  // `given` are {side, name, bytes, kind}, as `seeming` tells the kind; `choice` is one of OPTIONS, and of a wire text not `plain`. What takes long
+  // and is not waited for is asked of `aside`, a judge of its own.
+  constructor(judge, aside, given, choice) {
     this.judge = judge;
+    this.aside = aside;
     this.given = given;
     this.asked = new Map();
     this.made = {};
@@ -19,6 +24,10 @@ export class Session {
     this.source = given.find(({kind}) => kind !== 'capture');
     this.choice = choice;
     this.options = OPTIONS[this.choice];
+  }
+
+  get size() {
+    return Object.values(this.texts).reduce((sum, {length}) => sum + length, 0);
   }
 
   get isWire() {
@@ -47,27 +56,70 @@ export class Session {
     return this.asked.get(key);
   }
 
+  // The picture of a pair, which has the names of the files where the program can take them as those of two files.
+  async picture() {
+    const found = this.names.map(name => this.source ? `${this.source.name} (${name})` : this.nameOf(name));
+    const isTaken = name => !name || name.startsWith('-') || name === 'svg';
+    const names = found[0] === found[1] || found.some(isTaken) ? this.names : found;
+    const texts = Object.fromEntries(names.map((name, i) => [name, this.texts[this.names[i]]]));
+    return (await this.judge.ask(['draw', ...names, ...this.options, '--svg', 'svg'], texts)).made.svg;
+  }
+
   // Judges. A wire text or a script gives the two captures first, which then are the texts of all that is asked.
-  async judged() {
+  async judged(told) {
     if (this.source) {
       const {kind, bytes} = this.source, line = this.choice === 'line' ? OPTIONS.line : [];
-      const answer = await this.judge.ask(this.isWire ? ['tap', 'wire', 'a', 'b', ...line] : ['play', 'script', 'a', 'b'], {[kind]: bytes});
+      const words = this.isWire ? ['tap', 'wire', 'a', 'b', ...line] : ['play', 'script', 'a', 'b'];
+      const answer = await this.judge.ask(words, {[kind]: bytes}, {told});
       const is_written = this.isWire ? answer.status < 2 : answer.status === 0;
       if (is_written) this.made = this.texts = answer.made, this.names = ['a', 'b'];
       if (this.isWire || !is_written) return this.#found(answer);
     }
-    return this.#found(await this.ask(this.isOneEnd ? 'alone' : 'check', ...this.names, ...this.options));
+    return this.#found(await this.judge.ask([this.isOneEnd ? 'alone' : 'check', ...this.names, ...this.options], this.texts, {told}));
   }
 
-  // Of a refusal its parts, or null; the words of `why`, where it knows the words of the judgement; and what the reason means.
-  async why() {
-    const json = await this.ask('why', '--json', ...this.names, ...this.options), isTold = json.status === 1;
+  // What is known of a refusal by its first line alone: {refusal, text, meaning, stage}. `refusal` is null where there is no such line.
+  async first() {
+    const refusal = refusedIn(printed(this.answer));
+    return {refusal, text: '', meaning: refusal ? await this.#meaning(refusal) : '', stage: 'first'};
+  }
+
+  // Of a refusal its parts, and the words of `why`, where it knows the words of the judgement: of a pair all but what small changes tell, of one end
+  // all.
+  async cause(told) {
+    const again = this.isOneEnd ? undefined : WITHOUT_CHANGES;
+    let before = 0, last = 0;
+    const tells = {told: read => told(before + (last = read)), again};
+    const ask = (...words) => this.judge.ask(['why', ...words, ...this.names, ...this.options], this.texts, tells);
+    const json = await ask('--json'), isTold = json.status === 1;
+    before = last;
     const refusal = isTold ? refusalOf(json) : refusedIn(printed(this.answer));
-    if (!refusal) return {refusal: null, text: printed(json)};
-    const {number} = refusal.refused;
-    if (this.isOneEnd && this.choice === 'plain' && MAY_BE_QUEUED.includes(number)) refusal.queued = await this.#aloneWithQueue();
-    const text = isTold ? printed(await this.ask('why', ...this.names, ...this.options)) : '';
-    return {refusal, text, meaning: printed(await this.judge.ask(['explain', String(number)], {}))};
+    if (!refusal) return {refusal: null, text: printed(json), stage: 'all'};
+    if (this.isOneEnd && this.#mayBeQueued(refusal)) refusal.queued = await this.#aloneWithQueue();
+    const text = isTold ? printed(await ask()) : '';
+    const isAccusedLate = !this.isOneEnd && this.#mayBeQueued(refusal);
+    return {refusal, text, isAccusedLate, meaning: await this.#meaning(refusal), stage: this.isOneEnd || !isTold ? 'all' : 'cause'};
+  }
+
+  // The same of a pair with what small changes tell, each of which is judged, and whom a queue may excuse.
+  async changes(told, {isAccusedLate, ...cause}) {
+    const ask = (...words) => this.aside.ask(['why', ...words, ...this.names, ...this.options], this.texts, {told});
+    const refusal = refusalOf(await ask('--json')), text = isAccusedLate ? printed(await ask()) : cause.text;
+    return {...cause, refusal, text, stage: 'all'};
+  }
+
+  // All that `why` prints.
+  async printedWhy() {
+    const whole = await this.aside.ask(['why', ...this.names, ...this.options], this.texts);
+    return printed(whole.status === 1 ? whole : this.answer);
+  }
+
+  async #meaning({refused}) {
+    return printed(await this.judge.ask(['explain', String(refused.number)], {}));
+  }
+
+  #mayBeQueued({refused}) {
+    return this.choice === 'plain' && MAY_BE_QUEUED.includes(refused.number);
   }
 
   // What a queue would make of one end, as `why` says it of a pair; or undefined, where its capture has a fault further on.

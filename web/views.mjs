@@ -68,28 +68,41 @@ export function faultView(fault, session) {
     make('p', {className: 'soft'}, words + ' docs/CAPTURES.md has all kinds of lines.')];
 }
 
+// What is not known yet of the recording, or why it won't be, in the place where it will be told; `again` tries the small changes once more.
+function lateView({stage, lacks}, again) {
+  if (!lacks) return [stage === 'first' ? 'small changes of it are tried next' : 'small changes of it are being tried ..'];
+  return [`small changes of it were not all tried: ${lacks}. `, make('button', {type: 'button', onclick: again}, 'Try them again')];
+}
+
 // The cause of a refusal, at once: what happened, in a sentence; what was seen and is allowed; the refused line beside the one that it
-// contradicts; the rule, who is accused, and the change of a recording that would mend it. `first` is the program's first line; `judgeQueued`
-// judges anew, as nodes with a queue.
-export function causeView({refusal, text, meaning}, session, first, judgeQueued) {
+// contradicts; the rule, who is accused, and last the change of a recording that would mend it, once that is known. `first` is the program's first
+// line; `judgeQueued` judges anew, as nodes with a queue.
+export function causeView(known, session, first, {judgeQueued, again}) {
+  const {refusal, text, meaning, stage, isAccusedLate} = known;
   const {refused, check, edit} = refusal, told = rowsOf(text, 'unit'), {texts, source, isWire} = session;
   const meant = explanationOf(meaning).find(part => part.text).text;
   const said = sentence(refused, session.names.length === 1) || meant;
-  const phases = words => check.check === 'phase' ? make('span', {className: 'phases'}, phasesIn(words)) : '';
-  const boxed = (name, title, words) => make('div', {className: name}, make('small', {}, title), make('b', {}, words), phases(words));
   const parts = [make('p', {className: 'cause'}, isWire ? `As far as it could be placed, ${lowered(said)}` : said)];
   if (refusal.queued) parts.push(queueView(refusal, session, judgeQueued));
-  if (check) parts.push(make('div', {className: 'pair'}, boxed('seen', 'Seen', check.seen), boxed('allowed', 'Allowed there', check.allowed)));
-  const columns = sideBySide(refusal, texts, told.unit[0]).map(column => columnView(column, session.nameOf(column.side)));
-  parts.push(make('div', {className: 'pair lines'}, ...columns));
-  const rule = (check && check.rule) || meant;
+  if (check) parts.push(checkView(check));
+  const columns = sideBySide(refusal, texts, told.unit[0]).filter(({isRefused}) => isRefused || stage !== 'first');
+  parts.push(make('div', {className: 'pair lines'}, ...columns.map(column => columnView(column, session.nameOf(column.side)))));
   const likely = edit.map(({words}) => words).join('; or ');
   const place = first.match(/^(?:unexplained|apart:) ([ab]) unit (\d+) line (\d+)/);
   const where = place && `unit ${place[2]} of ${place[1]} (counted from 0), whose first byte is on line ${place[3]} of ${source.name}`;
-  const known = [['On the wire', where], ['The rule', rule], ['Accused', isWire ? '' : accusedOf({text})],
-    ['The recording', likely && `likely at fault: ${likely}`]];
-  parts.push(make('dl', {}, ...rows(known.filter(([, value]) => value).map(([name, value]) => [name, codes(value)]))));
+  const found = [['On the wire', where], ['The rule', (check && check.rule) || meant],
+    ['Accused', isWire || isAccusedLate ? '' : accusedOf({text})], ['The recording', likely && `likely at fault: ${likely}`]];
+  const pairs = found.filter(([, value]) => value).map(([name, value]) => [name, codes(value)]);
+  if (stage !== 'all' && !session.isOneEnd) pairs.push(['The recording', lateView(known, again)]);
+  parts.push(make('dl', {}, ...rows(pairs)));
   return parts;
+}
+
+// What was seen, and what is allowed there.
+function checkView({check, seen, allowed}) {
+  const phases = words => check === 'phase' ? make('span', {className: 'phases'}, phasesIn(words)) : '';
+  const boxed = (name, title, words) => make('div', {className: name}, make('small', {}, title), make('b', {}, words), phases(words));
+  return make('div', {className: 'pair'}, boxed('seen', 'Seen', seen), boxed('allowed', 'Allowed there', allowed));
 }
 
 // Whether a queue explains a refusal, in a sentence.
@@ -157,17 +170,25 @@ function recordRows({kind, hint, bytes, words, ddcmp, routing, nsp}) {
   return rows(known.filter(([, value]) => value));
 }
 
+// What small changes told, where none helps. `fewest` records have to follow.
+function changesWords({tried, records_behind: records}, fewest = 20) {
+  const follow = records === 1 ? '1 record follows' : `${records} records follow`;
+  if (records === null || records === undefined) return 'No small changes were tried, since a capture can’t be read again.';
+  if (records < fewest) return `Small changes were not tried: only ${follow} (${fewest} are needed).`;
+  return `${tried ? `None of ${tried} small changes nearby would make the pair acceptable` : 'No small changes were tried'} (${follow}).`;
+}
+
 // More of a refusal: what to look for, whether it is the recording, what the line says, and how both ends were.
-export function whyView({refusal, text, meaning}) {
-  if (!refusal) return [textView(text)];
-  const {refused, record, state, link, edit, edits} = refusal, told = rowsOf(text, 'recorder');
+export function whyView({refusal, text, meaning, stage}) {
+  if (!refusal) return text ? [textView(text)] : [make('p', {}, 'The cause is being looked for.')];
+  const {refused, record, state, link, edit, edits} = refusal;
   const isHere = ({text: words = ''}) => !/^(By whose fault|A pair that is refused)/.test(words);
   const parts = [make('h3', {}, `Reason ${refused.number}, ${refused.name}`), ...explanationOf(meaning).filter(isHere).map(part =>
     part.items ? make('ul', {}, ...part.items.map(item => make('li', {}, ...codes(item)))) : make('p', {}, ...codes(part.text)))];
-  if (edits) {
+  if (edits && stage === 'all') {
     const found = [make('p', {}, 'Likely. Each of these small changes would make the pair acceptable:'),
       make('ul', {}, ...edit.map(({words}) => make('li', {}, ...codes(words))))];
-    const none = make('p', {}, raised(told.recorder.join(' ') || 'no small change was found that helps') + '.');
+    const none = make('p', {}, changesWords(edits));
     parts.push(make('h3', {}, 'Is it the recording?'), ...(edit.length ? found : [none]));
   }
   if (record) parts.push(make('h3', {}, 'What the line says'), make('dl', {className: 'record'}, ...recordRows(record)));

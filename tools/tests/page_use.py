@@ -6,6 +6,7 @@ import time
 
 from lists.pair_lists import lines_below
 from lists.pairs import capture_of
+from tests.page_work import PARTS
 from tests.program import TOP
 
 LISTS = os.path.join(TOP, 'tools', 'lists')
@@ -126,6 +127,7 @@ def several_drops(use):
     use.expect('a script too', use.choose('a', example('lost_and_damaged.script')) == 'Accepted')
     use.expect('a pair in place of a script', use.choose('a', example('two_links.a'), example('two_links.b')) == 'Accepted')
     use.expect('as it was chosen before', use.browser.value(chosen) == [False, 'plain'])
+    use.judge('#queued')
     use.click('#swap')
     use.expect('swapped sides', 'two_links.b' in use.text('#end-a') and use.said() == 'Accepted')
     use.clear()
@@ -199,7 +201,7 @@ def causes(use):
         use.expect('in its place', 'one_end.a' in use.text(box) and 'bad' in use.browser.value('document.querySelector(%r).className' % box))
         use.expect('it is refused as DDCMP alone', use.judge('#line') == 'Refused')
         use.expect('likewise', use.text('#verdict .cause').startswith('The other end acknowledged'))
-        use.click('#plain')
+        use.click('#queued')
 
 
 # Refused pairs of tools/lists/pairs/worked_queues.txt, which nodes with queues do not make either, and what is said of that.
@@ -220,12 +222,13 @@ def queues(use):
     """Where a queue between NSP and DDCMP explains a refusal, that is said, and judging so is offered; and where it doesn't, that is said too."""
     pair, columns = [example('message_after_close.' + side) for side in 'ab'], '[...document.querySelectorAll("#verdict .column p")]'
     use.clear()
-    use.expect('a message after the close is refused', use.drop(*pair) == 'Refused')
+    use.expect('a message after the close is accepted', use.drop(*pair) == 'Accepted')
+    use.expect('of nodes that act at once it is refused', use.judge('#plain') == 'Refused')
     use.expect('a queue explains it', 'Judged as such, the pair is accepted.' in use.text('#verdict .queue'))
     use.expect('the close is shown', 'line 11 of message_after_close.a' in use.browser.value(columns + '[1].textContent'))
     use.expect('nobody is accused', 'nobody: a node with a queue' in use.text('#verdict dl'))
     use.expect('judged with a queue', use.judge('#verdict .queue button') == 'Accepted')
-    use.expect('that is chosen', use.browser.value('document.querySelector("#queued").checked && document.activeElement.id === "queued"'))
+    use.expect('that is chosen', use.browser.value('document.querySelector("#queued").checked && document.activeElement.id === "verdict"'))
     use.expect('and said', 'A queue between NSP and DDCMP was allowed for.' in use.text('#verdict .meaning'))
     for number, words in (1, 'DC 2>1'), (2, 'DC 2>1'), (3, 'went through 15 of 88 rows'):  # what comes after the message
         use.click('#tab-%d' % number)
@@ -246,7 +249,6 @@ def queues(use):
     use.expect('what a queue allows is not asked again', not use.browser.value('document.querySelector("#verdict .queue")'))
     use.expect('why it is refused with a queue', use.browser.value('Boolean(document.querySelector("#verdict .seen"))'))
     use.expect('who is accused with a queue', 'Accused' in use.text('#verdict dl'))
-    use.click('#plain')
 
 
 def strange_files(use):
@@ -314,13 +316,14 @@ def by_keys_alone(use):
     while len(met) < 20 and (not met or met[-1] != 'examples BUTTON'):
         use.browser.key('Tab', 9)
         met.append(use.browser.value(name))
-    use.expect('the controls in their order: %s' % met, met == ['end-a INPUT', 'end-b INPUT', 'plain', 'examples BUTTON'])
+    use.expect('the controls in their order: %s' % met, met == ['end-a INPUT', 'end-b INPUT', 'queued', 'examples BUTTON'])
     use.browser.value('globalThis.shown = null')
     use.browser.key('Enter', 13, text='\r')
     use.expect('an example by Enter', use.said() == 'Refused')
-    use.browser.value('globalThis.shown = null; document.querySelector("#plain").focus()')
+    use.expect('the focus is at the answer', use.browser.value('document.activeElement.id') == 'verdict')
+    use.browser.value('globalThis.shown = null; document.querySelector("#queued").focus()')
     use.browser.key('ArrowDown', 40)
-    use.expect('another way to judge by an arrow', use.said() == 'Refused' and use.browser.value('document.activeElement.id') == 'queued')
+    use.expect('another way to judge by an arrow', use.said() == 'Refused' and use.browser.value('document.activeElement.id') == 'plain')
     met = []
     while len(met) < 9 and (not met or met[-1] != 'panel'):
         use.browser.key('Tab', 9)
@@ -381,7 +384,7 @@ def expectations(browser, page, folder):
     """How many things were expected of the page, and those that did not hold."""
     use = Use(browser, page, folder)
     opened(use)
-    for part in several_drops, texts_that_do_not_pair, causes, queues, strange_files, tabs_and_keys, by_keys_alone, lacking:
+    for part in (several_drops, texts_that_do_not_pair, causes, queues, strange_files, tabs_and_keys, by_keys_alone, *PARTS, lacking):
         part(use)
     for error in browser.errors:
         use.expect('an error of the page: ' + error, False)
