@@ -4,8 +4,11 @@ import os
 from captures import long_segments
 from tests.program import TOP
 
-RECORDS = 40_000  # of each side of a long pair: two texts of over 40 MB
+RECORDS = 20_000  # of each side of a long pair: two texts of over 20 MB
 FOLLOW = 3_000  # lines after what is refused
+
+# What its worker does at each read, and what it does in the test: so that judging takes over half a second on any machine.
+READS, READS_SLOWLY = 'read += count;', 'read += count; if (words[0] === "check") for (const end = Date.now() + 4; Date.now() < end;);'
 
 # In the page: keeps what it says while it works, and whether a verdict is to be seen then.
 WATCH = '''(() => {
@@ -19,7 +22,7 @@ WATCH = '''(() => {
   globalThis.watched = new MutationObserver(look);
   watched.observe(document.querySelector('#work'), {attributes: true, childList: true, subtree: true, characterData: true});
 })()'''
-TOLD = 'small changes nearby would make the pair acceptable'  # of a long pair a few are judged, and maybe not the right one
+TOLD = 'likely at fault: line '
 FOCUSED = 'document.activeElement.id'
 IS_IN_SIGHT = '(it => it.top >= 0 && it.bottom <= innerHeight && it.left >= 0 && it.right <= innerWidth)(%s.getBoundingClientRect())'
 STOP = 'document.querySelector("#stop")'
@@ -43,15 +46,17 @@ def long_pair(folder):
 
 def working(use):
     """A long pair: how far it is, the verdict while small changes are tried, and what Stop does, wherever it is pressed."""
-    use.clear()
     pair, browser = long_pair(use.folder), use.browser
+    with open(use.page) as page:
+        slow = use.file('slow.html', page.read().replace(READS, READS_SLOWLY).encode())
+    browser.open('file://' + slow)
     browser.value(WATCH)
     use.expect('a long pair', use.drop(*pair) == 'Refused')
     seen = browser.value('seen')
     counts = [words for words, title in seen if words.startswith('judging, ') and words.endswith(' MB') and ' of ' in words and not title]
     use.expect('how far it is: %s' % seen[:9], any(0 < int(words.split()[1]) < int(words.split()[3]) for words in counts))
     use.expect('the verdict before small changes', any(words.startswith('trying small changes, ') and title == 'Refused' for words, title in seen))
-    use.expect('what they tell', 'being tried' not in use.text('#verdict dl') and TOLD in use.text('#panel'))
+    use.expect('what they tell', TOLD in use.text('#verdict dl') and 'being tried' not in use.text('#verdict dl'))
     use.expect('nothing is said to be done by then', browser.value('document.querySelector("#work").hidden'))
     browser.value('globalThis.shown = null')
     use.click('#plain')
@@ -65,7 +70,7 @@ def working(use):
     use.expect('the focus is at the answer', browser.value(FOCUSED) == 'verdict')
     browser.value('globalThis.shown = null')
     use.click('#verdict dl button')
-    use.expect('tried again', use.said() == 'Refused' and 'stopped' not in use.text('#verdict dl') and TOLD in use.text('#panel'))
+    use.expect('tried again', use.said() == 'Refused' and 'stopped' not in use.text('#verdict dl') and TOLD in use.text('#verdict dl'))
     browser.value('globalThis.shown = null')
     use.click('#queued')
     browser.until('!document.querySelector("#work").hidden && /^judging/.test(document.querySelector("#work span").textContent)')
