@@ -22,6 +22,11 @@
      recorder_composed(&log, packet, length);         a packet that will never be sent, before recorder_sent of those that are composed later
      recorder_message(&log, "interrupt 1", bytes, length);  and "interrupted 1": an interrupt of at most 16 bytes is handed in, or delivered
 
+   If the line already runs when you switch the recorder on, open it in format 4: its head says that this is a part of a run, which
+   `ddcap check --line` and `alone --line` judge, and it has the lines of format 3. `number` counts from where the peer's recorder was switched
+   on, and is RECORDER_BEFORE for a unit that was sent before that. RECORDER_NEXT means that too, until a number was given: that is enough for
+   `alone`.
+
    Each call answers 1; or 0 if the file failed, after which nothing is written, or if it can't be a line of the capture's format, which is not
    written then. recorder.py says what comes of other calls. */
 #ifndef DDCAP_RECORDER_H
@@ -30,6 +35,8 @@
 #include <string.h>
 
 #define RECORDER_NEXT (-1LL)
+#define RECORDER_BEFORE (-2LL)
+#define RECORDER_PART 4         /* the format of a part of a run */
 #define RECORDER_UNIT 16393     /* the most bytes of a unit, */
 #define RECORDER_PACKET 16383   /* of a packet, */
 #define RECORDER_MESSAGE 65535  /* of a user's message, */
@@ -37,8 +44,8 @@
 
 struct recorder {
     FILE *file;
-    int form;       /* the format: 1, 2 or 3 */
-    long long next; /* the number of the peer's next unit */
+    int form;       /* the format: 1, 2, 3 or RECORDER_PART */
+    long long next; /* the number of the peer's next unit, or RECORDER_BEFORE */
 };
 
 /* What follows these words is a number from 1 to `most`, spelled as a capture spells it: where it ends, else NULL. */
@@ -93,11 +100,14 @@ static inline int recorder_line(struct recorder *log, const char *words, const u
 static inline int recorder_receipt(struct recorder *log, char letter, const unsigned char *unit, size_t length, long long number)
 {
     char words[32];
+    int is_part = log->form == RECORDER_PART;
     if (number == RECORDER_NEXT) number = log->next;
-    if (number < 0 || number >= 1000000000000000000LL) return 0;
-    snprintf(words, sizeof words, "%c %lld", letter, log->form == 2 ? number - log->next : number);
+    int is_before = is_part && number == RECORDER_BEFORE;
+    if (!is_before && (number < 0 || number >= 1000000000000000000LL - is_part)) return 0;
+    if (is_before) snprintf(words, sizeof words, "%c -", letter);
+    else snprintf(words, sizeof words, "%c %lld", letter, log->form == 2 ? number - log->next : number);
     if (!recorder_line(log, words, unit, length, RECORDER_UNIT)) return 0;
-    log->next = number + 1;
+    if (!is_before) log->next = number + 1;
     return 1;
 }
 
@@ -105,10 +115,10 @@ static inline int recorder_open_as(struct recorder *log, int form, const char *p
 {
     log->file = NULL;
     log->form = form;
-    log->next = 0;
-    if (form < 1 || form > 3 || !recorder_node(own) || !recorder_node(peer)) return 0;
+    log->next = form == RECORDER_PART ? RECORDER_BEFORE : 0;
+    if (form < 1 || form > RECORDER_PART || !recorder_node(own) || !recorder_node(peer)) return 0;
     log->file = fopen(path, "wb");
-    return log->file && fprintf(log->file, "ddcap %d %s %s", form, own, peer) > 0 && recorder_ended(log);
+    return log->file && fprintf(log->file, "ddcap %d %s %s%s", form, own, peer, form == RECORDER_PART ? " part" : "") > 0 && recorder_ended(log);
 }
 
 static inline int recorder_open(struct recorder *log, const char *path, const char *own, const char *peer)

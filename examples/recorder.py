@@ -19,6 +19,10 @@ If the node starts anew, gives up a call, or loses packets inside, its capture h
     recorder.composed(packet)                a packet that will never be sent, before `sent` of those that are composed later
     recorder.user('interrupt', 1, message=b'x') and 'interrupted': an interrupt of at most 16 bytes is handed in, or delivered
 
+If the line already runs when you switch the recorder on, use Recorder(.., form=4). Its head says that this is a part of a run, which
+`ddcap check --line` and `alone --line` judge, and it has the lines of format 3. `number` counts from where the peer's recorder was switched on,
+and is BEFORE for a unit that was sent before that. Without it that is meant too, until a number was given: that is enough for `alone`.
+
 A call that can't be a line of the capture's format is a ValueError, and writes nothing.
 
 If you call it otherwise the pair is refused: `received` for a packet that was kept (8), a unit with SYN in front (1), no `number` though a unit was
@@ -30,15 +34,17 @@ EVENTS = {'start': (0, None, 1), 'halt': (0, None, 1), 'open': (1, None, 1), 'ac
           'in': (1, 65_535, 1), 'up': (1, 65_535, 1),
           'boot': (0, None, 3), 'abort': (1, None, 3), 'interrupt': (1, 16, 3), 'interrupted': (1, 16, 3)}
 MOST_OF_UNIT, MOST_OF_PACKET, MOST_UNITS, MOST_LINKS = 16_393, 16_383, 10 ** 18, 65_535
+PART = 4  # the format of a part of a run
+BEFORE = '-'  # there the number of a unit that was sent before the peer's capture begins
 NODE = re.compile(r'([1-9]\d?)\.([1-9]\d{0,3})', re.ASCII)
 
 
 class Recorder:
     def __init__(self, file, own, peer, form=2):
-        if form not in (1, 2, 3):
+        if form not in (1, 2, 3, PART):
             raise ValueError('no format of captures: %r' % (form,))
-        self.file, self.form, self.next = file, form, 0
-        self.line('ddcap %d %s %s' % (form, node(own), node(peer)))
+        self.file, self.form, self.next = file, form, BEFORE if form == PART else 0
+        self.line('ddcap %d %s %s%s' % (form, node(own), node(peer), ' part' if form == PART else ''))
 
     def sent(self, unit):
         self.line('s ' + digits(unit, MOST_OF_UNIT))
@@ -71,9 +77,14 @@ class Recorder:
 
     def receipt(self, letter, unit, number):
         number = self.next if number is None else number
+        self.line('%s %s %s' % (letter, self.hint(number), digits(unit, MOST_OF_UNIT)))
+        self.next = self.next if number == BEFORE else number + 1
+
+    def hint(self, number):
+        if self.form == PART:
+            return '-' if number == BEFORE else whole(number, 0, MOST_UNITS - 2)
         whole(number, 0, MOST_UNITS - 1)
-        self.line('%s %d %s' % (letter, number - self.next if self.form == 2 else number, digits(unit, MOST_OF_UNIT)))
-        self.next = number + 1
+        return '%d' % (number - self.next if self.form == 2 else number)
 
     def needs(self, form, what):
         if self.form < form:

@@ -1,4 +1,5 @@
-/* ddcap.h: judges captures of a DDCMP line between two DECnet nodes, as the program ddcap does. docs/CAPTURES.md says what a capture is.
+/* ddcap.h: judges captures of a DDCMP line between two DECnet nodes, and makes them of what passed on it, as the program ddcap does. docs/CAPTURES.md
+ * says what a capture is.
  *
  * Nothing is shared and nothing outlives a call, so each thread may judge at the same time; a stack of 128 KB is enough for it. No file is read or
  * written, and nothing is printed.
@@ -44,6 +45,11 @@ int ddcap_alone(const char *a, size_t a_length, unsigned choices, struct ddcap_a
 
 /* Tells why they are refused, as `ddcap why A B`; with a `b` of NULL why one is, as `ddcap why A`. */
 int ddcap_why(const char *a, size_t a_length, const char *b, size_t b_length, unsigned choices, struct ddcap_answer *answer);
+
+/* Makes both captures of the text of a wire, as `ddcap tap WIRE A B`; docs/WIRE.md says what that is. The texts of `a` and `b` are the captures,
+ * empty where none were made; their status is 0, or DDCAP_NO_MEMORY, which the call then answers too. Of the choices DDCAP_LINE and DDCAP_JSON fit.
+ * DDCAP_REFUSED says that a unit is unexplained, or that the captures do not fit together. All three answers have to be freed. */
+int ddcap_tap(const char *wire, size_t wire_length, unsigned choices, struct ddcap_answer *answer, struct ddcap_answer *a, struct ddcap_answer *b);
 
 /* Frees the text of an answer. */
 void ddcap_free(struct ddcap_answer *answer);

@@ -1,12 +1,24 @@
-# Completion for bash of ddcap, ddcap-wire-relay, ddcap-wire-pcap and ddcap-wire-of. The words of ddcap and their options are those of `ddcap help` and its pages.
+# Completion for bash of ddcap, ddcap-wire-relay, ddcap-wire-pcap, ddcap-wire-of and ddcap-router-view. The words of ddcap and their options are those
+# of `ddcap help` and its pages.
 
-_ddcap_words() { command ddcap help 2> /dev/null | sed -n 's/^  ddcap \([a-z]*\).*/\1/p'; }
+# The program itself is asked, by the path that was typed.
+_ddcap_asked() { command "${COMP_WORDS[0]/#\~/$HOME}" help "$@" 2> /dev/null; }
+
+_ddcap_words() { _ddcap_asked | sed -n 's/^  ddcap \([a-z]*\).*/\1/p'; }
 
 # The options that the page of a word names, without those of other words after it, as in `ddcap why --queued A B`.
-_ddcap_options() { command ddcap help "$1" 2> /dev/null | sed 's/ddcap .*//' | grep -oE '(^|[[:space:]([])--[a-z]+' | grep -oE -- '--[a-z]+' | sort -u; }
+_ddcap_options() { _ddcap_asked "$1" | sed 's/ddcap .*//' | grep -oE '(^|[[:space:]([])--[a-z]+' | grep -oE -- '--[a-z]+' | sort -u; }
+
+# Those that may still be given, since none may come twice, and --line and --queued exclude each other.
+_ddcap_left() {
+  local given=" ${COMP_WORDS[*]:2:COMP_CWORD-2} "
+  [[ $given == *' --line '* ]] && given+='--queued '
+  [[ $given == *' --queued '* ]] && given+='--line '
+  _ddcap_options "$1" | while read -r option; do [[ $given == *" $option "* ]] || echo "$option"; done
+}
 
 # The numbers of the reasons.
-_ddcap_reasons() { command ddcap help explain 2> /dev/null | sed -n 's/.*\<1 to \([0-9]*\).*/\1/p' | head -n 1 | xargs -r seq; }
+_ddcap_reasons() { _ddcap_asked explain | sed -n 's/.*\<1 to \([0-9]*\).*/\1/p' | head -n 1 | xargs -r seq; }
 
 # Proposes the words of this list that begin as the word at the cursor does; nothing else is proposed.
 _ddcap_propose() {
@@ -28,8 +40,8 @@ _ddcap() {
     _ddcap_propose '1 2 3'
   elif [ "$before" = --rows ] || [ "$before" = --from ]; then
     _ddcap_propose ''
-  elif [[ $now == -* ]]; then
-    _ddcap_propose "$(_ddcap_options "$word")"
+  elif [[ $now == -* && " ${COMP_WORDS[*]:2:COMP_CWORD-2} " != *' -- '* ]]; then
+    _ddcap_propose "$(_ddcap_left "$word")"
   fi
 }
 
@@ -53,7 +65,15 @@ _ddcap_wire_of() {
   fi
 }
 
+_ddcap_router_view() {
+  COMPREPLY=()
+  if [[ ${COMP_WORDS[COMP_CWORD]} == -* ]]; then
+    _ddcap_propose '--help'
+  fi
+}
+
 complete -o default -F _ddcap ddcap
 complete -o default -F _ddcap_wire_relay ddcap-wire-relay
 complete -o default -F _ddcap_wire_pcap ddcap-wire-pcap
 complete -o default -F _ddcap_wire_of ddcap-wire-of
+complete -o default -F _ddcap_router_view ddcap-router-view

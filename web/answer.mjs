@@ -18,7 +18,7 @@ export const shownSession = () => shownNow;
 export async function answer(session, page) {
   const it = {session, page, begun: performance.now(), known: null};
   $('.between').className = 'between busy';
-  beginWork({what: 'judging', size: session.size, isOnce: true, stop: () => session.judge.stop()});
+  beginWork({what: 'judging', size: session.size, isOnce: true, isAnew: true, stop: () => session.judge.stop()});
   it.verdict = await session.judged(workTold);
   it.took = performance.now() - it.begun;
   if (session.answer.status === 1) it.known = await session.first();
@@ -67,7 +67,9 @@ function show(it) {
   const causes = refused ? causeView(known, session, verdict.first, {judgeQueued: it.page.judgeQueued, again}) : broken;
   box.querySelector('.parts').replaceChildren(...causes);
   mark(session, verdict, session.source ? null : refused || fault);
-  $('#saved').replaceChildren(...Object.entries(session.made).map(([side, bytes]) => link(`Save the capture of ${side}`, `line.${side}`, bytes)));
+  const passed = session.source && session.source.packets ? [link('Save what passed on the line', 'line.wire', session.source.bytes)] : [];
+  $('#saved').replaceChildren(...passed,
+    ...Object.entries(session.made).map(([side, bytes]) => link(`Save the capture of ${side}`, `line.${side}`, bytes)));
   const size = session.given.reduce((sum, {bytes}) => sum + bytes.length, 0);
   $('#took').textContent = `${size.toLocaleString('en')} bytes, judged in ${took.toFixed(0)} ms.`;
   $('#result').hidden = false;

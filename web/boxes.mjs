@@ -7,8 +7,9 @@ export const $ = selector => document.querySelector(selector);
 const EMPTY = {a: 'Drop its capture here, or choose it', b: 'Its capture, if you have it'};
 const NOT_NEEDED = 'Not needed: the other text is of both ends';
 const NAMED = /\.([ab])(\.gz|\.txt)?$/i;
-const TITLES = {a: 'One end', b: 'The other end', wire: 'What passed on the line, of both ends', script: 'A script of both ends'};
-// Of each side a file, as {name, bytes}, or null.
+const TITLES = {a: 'One end', b: 'The other end', wire: 'What passed on the line, of both ends', script: 'A script of both ends',
+  packets: 'A packet capture'};
+// Of each side a file, as {name, bytes}, or null; where the bytes are the text of the line in a packet capture, also that, as `packets`.
 export const ends = {a: null, b: null};
 
 // Puts a file into the box of a side; null empties it.
@@ -27,9 +28,10 @@ function describe(side) {
   box.classList.toggle('full', file !== null);
   box.classList.toggle('unneeded', !isNeeded);
   box.querySelector('.title').textContent = (file && TITLES[seeming(file.bytes).kind]) || TITLES[side];
-  box.querySelector('.what').textContent = file ? `${file.name}, ${file.bytes.length.toLocaleString('en')} bytes`
+  box.querySelector('.what').textContent = file ? `${file.name}, ${(file.packets || file.bytes).length.toLocaleString('en')} bytes`
     : isNeeded ? EMPTY[side] : NOT_NEEDED;
-  const begin = new TextDecoder().decode((file ? file.bytes : new Uint8Array()).subarray(0, 400)).replace(/[^\x20-\x7e\n]/g, '·');
+  const isText = file && seeming(file.bytes).kind !== 'packets';
+  const begin = new TextDecoder().decode((isText ? file.bytes : new Uint8Array()).subarray(0, 400)).replace(/[^\x20-\x7e\n]/g, '·');
   box.querySelector('.head').textContent = begin.split('\n').slice(0, 3).map(line => line.slice(0, 48)).join('\n');
 }
 

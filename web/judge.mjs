@@ -15,11 +15,25 @@ export class Judge {
   // What the program answers to these words over these texts: {status, out, err, made}. An Error where the run breaks off, or is stopped.
   // Meanwhile `told` is called with how many bytes were read; `again` is how often each text can be begun again (always, where it is left out).
   ask(words, texts, {told = () => {}, again} = {}) {
+    return this.#send({words, texts, again}, told);
+  }
+
+  // What passed on the line in a packet capture: what `wireIn` answers to the same.
+  wireIn(packets, asked, told) {
+    return this.#send({packets, asked}, told);
+  }
+
+  #send(message, told) {
     return new Promise((answer, fail) => {
       const number = ++this.#asked;
       this.#waiting.set(number, {answer, fail, told});
-      this.#begun().postMessage({number, words, texts, again});
+      this.#begun().postMessage({number, ...message});
     });
+  }
+
+  // Whether an answer is waited for.
+  get isBusy() {
+    return this.#waiting.size > 0;
   }
 
   stop() {

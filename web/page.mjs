@@ -2,13 +2,14 @@
 import {TITLE, answer, shownSession} from './answer.mjs';
 import {$, ends, leaveWhole, place, placeBoth, put} from './boxes.mjs';
 import {Judge} from './judge.mjs';
+import {lineNotes, noLineView, takeLine} from './line.mjs';
 import {MOST_BYTES, cured, seeming, unpaired} from './seeming.mjs';
 import {Session} from './session.mjs';
 import {printed} from './telling.mjs';
 import {make} from './views.mjs';
 import {beginWork, endWork, stopWork} from './work.mjs';
 
-let judge = null, aside = null, round = 0, isPlainLeft = false;
+let judge = null, aside = null, round = 0, taking = 0, left = null;
 
 // ---- the judge
 
@@ -27,8 +28,10 @@ async function begin() {
   }
   try {
     const module = await unpacked();
-    [judge, aside] = [0, 1].map(() => new Judge(module, $('#worker').textContent));
-    const help = printed(await judge.ask(['help'], {}));
+    const both = [0, 1].map(() => new Judge(module, $('#worker').textContent));
+    const help = printed(await both[0].ask(['help'], {}));
+    // from now on: what is dropped earlier ends nothing
+    [judge, aside] = both;
     $('#version').textContent = help.split(':')[0].replace(/^ddcap /, '');
     return [];
   } catch (error) {
@@ -58,18 +61,27 @@ async function take(list, side) {
     return;
   }
   let read;
-  beginWork({what: `reading ${files.map(file => file.name).join(' and ')}`, size: taken});
+  const mine = ++taking, from = document.activeElement;
+  beginWork({what: `reading ${files.map(file => file.name).join(' and ')}`, size: taken, stop: () => notTaken('Reading was stopped.', from)});
   try {
     read = await Promise.all(files.map(async file => ({name: file.name, bytes: new Uint8Array(await file.arrayBuffer())})));
   } catch (error) {
-    endWork();
-    note(`${files[0].name} could not be read: ${error.message}`, 'A folder can’t be dropped; drop the files in it.');
+    if (mine === taking) notTaken(`${files[0].name} could not be read: ${error.message}`, from, 'A folder can’t be dropped; drop the files in it.');
     return;
   }
+  if (mine !== taking) return;
   pressed(null);
   if (read.length === 2) placeBoth(...read);
   else place(read[0], side);
   await judgeGiven(list.length > 2 ? [`Of ${list.length} files the first two were taken: ${ends.a.name} as a, ${ends.b.name} as b.`] : []);
+}
+
+// Files were not taken after all; what was judged before stays.
+function notTaken(words, from, ...more) {
+  taking += 1;
+  endWork();
+  note(words, ...more);
+  focus($('#note'), from);
 }
 
 // ---- judging
@@ -86,26 +98,29 @@ function strange(side, file, found) {
       note(`${file.name} could not be unpacked: it is torn, or no gzip file.`);
     }
   }}, found.button);
-  const recipe = found.recipe && make('pre', {tabIndex: 0}, found.recipe(file.name));
-  note(make('p', {}, make('b', {}, `${file.name} is ${found.is}. `), found.words), ...[recipe, button].filter(Boolean));
+  note(make('p', {}, make('b', {}, `${file.name} is ${found.is}. `), found.words), ...[button].filter(Boolean));
   $('#end-' + side).classList.add('bad');
 }
 
-// Over a wire text queues are always allowed for, so nothing else is offered; what was chosen before comes back for the next capture.
-function offer(isWire) {
-  const [plain, queued] = [$('#plain'), $('#queued')];
-  plain.disabled = isWire;
-  if (isWire && plain.checked) queued.checked = isPlainLeft = true;
-  if (!isWire && isPlainLeft) plain.checked = true, isPlainLeft = false;
+// Over a wire text queues are always allowed for, and of a part of a run DDCMP alone can be judged, so nothing else is offered; what was chosen
+// before comes back for the next capture.
+function offer(given) {
+  const isWhole = given.some(({seems: {kind}}) => kind === 'wire' || kind === 'packets');
+  const offered = given.some(({seems}) => seems.isPart) ? ['line'] : isWhole ? ['queued', 'line'] : ['queued', 'plain', 'line'];
+  const choices = [...document.querySelectorAll('[name=choice]')], wanted = left ?? choices.find(({checked}) => checked).id;
+  const chosen = offered.includes(wanted) ? wanted : offered[0];
+  for (const choice of choices) choice.disabled = !offered.includes(choice.id);
+  left = chosen === wanted ? null : wanted;
+  $('#' + chosen).checked = true;
 }
 
 async function judgeGiven(notes = [], isFocused = true) {
   const leaving = leaveWhole(), mine = ++round, from = document.activeElement;
   const given = ['a', 'b'].filter(side => ends[side]).map(side => ({side, ...ends[side], seems: seeming(ends[side].bytes)}));
   const odd = given.find(({seems}) => seems.kind === 'strange');
-  note(...notes, ...leaving, ...(given.length === 2 ? unpaired(given) : []));
+  note(...notes, ...leaving, ...lineNotes(ends.a, ofPackets), ...(given.length === 2 ? unpaired(given) : []));
   rest();
-  offer(given.some(({seems}) => seems.kind === 'wire'));
+  offer(given);
   if (!given.length || odd) {
     $('#result').hidden = true;
     document.title = TITLE;
@@ -118,9 +133,34 @@ async function judgeGiven(notes = [], isFocused = true) {
     note(...lacks);
     return;
   }
+  if (given[0].seems.kind === 'packets') {
+    await ofPackets({}, isFocused, notes.concat(leaving));
+    return;
+  }
   const session = new Session(judge, aside, given.map(it => ({...it, kind: it.seems.kind})), $('[name=choice]:checked').value);
   try {
     await answer(session, {isCurrent: () => mine === round, focused: box => isFocused && focus(box, from), judgeQueued});
+  } catch (error) {
+    if (mine === round) broken(error);
+  }
+}
+
+// Takes the line out of a packet capture, and judges that. `asked` is as `wireIn` has it.
+async function ofPackets(asked, isFocused = true, notes = []) {
+  const mine = ++round, from = document.activeElement;
+  rest();
+  try {
+    const found = await takeLine(judge, 'a', asked, () => mine === round);
+    if (mine !== round) return;
+    if (!found.fault) {
+      await judgeGiven(notes, isFocused);
+      return;
+    }
+    rest();
+    $('#result').hidden = true;
+    note(...notes, ...noLineView(found, ends.a.name, ofPackets));
+    $('#end-a').classList.add('bad');
+    if (isFocused) focus($('#note'), from);
   } catch (error) {
     if (mine === round) broken(error);
   }
@@ -156,6 +196,7 @@ function focus(box, from) {
 // What a button in the verdict offers.
 function judgeQueued() {
   $('#queued').checked = true;
+  left = null;
   judgeGiven();
 }
 
@@ -164,11 +205,13 @@ function pressed(name) {
 }
 
 function example(name, given) {
+  taking += 1;
   put('a', null), put('b', null);
   for (const [side, text] of Object.entries(given.texts)) {
     put(side, {name: name + (given.ending || '.' + side), bytes: new TextEncoder().encode(text)});
   }
   $('#' + given.choice).checked = true;
+  left = null;
   pressed(name);
   judgeGiven();
 }
@@ -193,7 +236,7 @@ document.ondrop = event => {
 };
 for (const choice of document.querySelectorAll('[name=choice]')) {
   choice.onchange = () => {
-    isPlainLeft = false;
+    left = null;
     judgeGiven([], false);
   };
 }
@@ -203,6 +246,7 @@ $('#swap').onclick = () => {
   judgeGiven([], false);
 };
 $('#clear').onclick = () => {
+  taking += 1;
   put('a', null), put('b', null);
   pressed(null);
   judgeGiven([], false);

@@ -1,13 +1,10 @@
-// What a dropped file seems to be, told from its bytes before anything is judged: a capture, a wire text, a script; or something else, with words
-// for who dropped it, and where the page can mend it, how.
+// What a dropped file seems to be, told from its bytes before anything is judged: a capture, a wire text, a script, a packet capture; or something
+// else, with words for who dropped it, and where the page can mend it, how.
 
 export const MOST_BYTES = 1_000_000_000;
 
 const BEGINNINGS = [
   ['1f8b', 'a gzip file', 'gzip'],
-  ['d4c3b2a1', 'a packet capture (pcap)', 'pcap'], ['a1b2c3d4', 'a packet capture (pcap)', 'pcap'],
-  ['4d3cb2a1', 'a packet capture (pcap)', 'pcap'], ['a1b23c4d', 'a packet capture (pcap)', 'pcap'],
-  ['0a0d0d0a', 'a packet capture (pcapng)', 'pcap'],
   ['504b0304', 'a zip archive', 'packed'], ['fd377a585a00', 'an xz file', 'packed'], ['425a68', 'a bzip2 file', 'packed'],
   ['28b52ffd', 'a zstd file', 'packed'], ['377abcaf271c', 'a 7z archive', 'packed'],
   ['25504446', 'a PDF', 'other'], ['89504e47', 'a picture (PNG)', 'other'], ['ffd8ff', 'a picture (JPEG)', 'other'],
@@ -18,22 +15,22 @@ const BEGINNINGS = [
 const WHAT_IS_WANTED = 'A capture is a text whose first line is like “ddcap 1 1.1 1.2”; what passed on a line begins with “ddwire 1”.';
 const CURES = {
   gzip: {words: 'It can be unpacked here.', cure: 'unpack', button: 'Unpack it and judge'},
-  pcap: {words: 'ddcap reads text. If it holds a DDCMP line over TCP or UDP, recorded from its start, tools/wire_pcap makes the text of it. Then drop line.wire.',
-    recipe: name => `tools/wire_pcap '${name.replaceAll("'", "'\\''")}' > line.wire`},
   packed: {words: 'Unpack it, and drop the text that is in it.'},
   other: {words: WHAT_IS_WANTED},
   utf16: {words: 'A capture is plain ASCII.', cure: 'utf16', button: 'Turn it into ASCII and judge'},
 };
+const PACKETS = ['d4c3b2a1', 'a1b2c3d4', '4d3cb2a1', 'a1b23c4d', '0a0d0d0a'];  // how a pcap begins, or a pcapng
 const KINDS = {ddcap: 'capture', ddwire: 'wire', ddplay: 'script'};
 
 const hex = bytes => Array.from(bytes, byte => byte.toString(16).padStart(2, '0')).join('');
 const ascii = bytes => String.fromCharCode(...bytes);
 
-// {kind: 'capture', 'wire' or 'script'}, or {kind: 'strange', is, words, cure, button, recipe}: `cure` goes with `button`, and `recipe` makes
-// commands of the file's name.
+// {kind: 'capture', 'wire', 'script' or 'packets', isPart}, where `isPart` says that a capture is a part of a run; or {kind: 'strange', is, words,
+// cure, button}: `cure` goes with `button`.
 export function seeming(bytes) {
   if (bytes.length === 0) return {kind: 'strange', is: 'empty', words: WHAT_IS_WANTED};
   const front = hex(bytes.subarray(0, 8));
+  if (PACKETS.includes(front.slice(0, 8))) return {kind: 'packets'};
   const begun = BEGINNINGS.find(([start]) => front.startsWith(start));
   if (begun) return {kind: 'strange', is: begun[1], ...CURES[begun[2]]};
   if (front.startsWith('efbbbf')) return {kind: 'strange', is: 'a text with a byte order mark', cure: 'mark', button: 'Take the mark out and judge',
@@ -46,16 +43,16 @@ export function seeming(bytes) {
   if (!kind) return {kind: 'strange', is: 'no capture', words: `Its first line is “${first.slice(0, 60).trim()}”. ${WHAT_IS_WANTED}`};
   if (first.endsWith('\r')) return {kind: 'strange', is: 'a text with CR at the end of its lines', cure: 'crlf', button: 'Take the CRs out and judge',
     words: 'Windows ends lines so; ddcap takes LF alone, since a text has one spelling.'};
-  return {kind};
+  return {kind, isPart: kind === 'capture' && first.endsWith(' part')};
 }
 
 // Whether bytes are a text of both ends, beside which no other belongs.
-export const isWhole = bytes => ['wire', 'script'].includes(seeming(bytes).kind);
+export const isWhole = bytes => ['wire', 'script', 'packets'].includes(seeming(bytes).kind);
 
 // What to say of two captures whose first lines are not those of the two ends of one line; nothing where they are, or are no first lines. `given`
 // are two of {name, bytes}.
 export function unpaired(given) {
-  const [one, other] = given.map(({bytes}) => ascii(bytes.subarray(0, 80)).match(/^ddcap \d (\S+) (\S+)\n/));
+  const [one, other] = given.map(({bytes}) => ascii(bytes.subarray(0, 80)).match(/^ddcap \d (\S+) (\S+)(?: part)?\n/));
   if (!one || !other || (one[1] === other[2] && one[2] === other[1])) return [];
   const [first, second] = given.map(({name}) => name);
   if (one[1] === other[1]) return [`Both first lines name ${one[1]} as the node. Are ${first} and ${second} recordings of the same end?`];

@@ -11,8 +11,8 @@ const MAY_BE_QUEUED = [18, 19, 20, 21];
 const WITHOUT_CHANGES = 1;
 
 export class Session {
-  // `given` are {side, name, bytes, kind}, as `seeming` tells the kind; `choice` is one of OPTIONS, and of a wire text not `plain`. What takes long
-  // and is not waited for is asked of `aside`, a judge of its own.
+  // `given` are {side, name, bytes, packets, kind}, as `seeming` tells the kind; `choice` is one of OPTIONS, and of a wire text not `plain`. What
+  // takes long and is not waited for is asked of `aside`, a judge of its own.
   constructor(judge, aside, given, choice) {
     this.judge = judge;
     this.aside = aside;
@@ -41,7 +41,12 @@ export class Session {
   // What the text is called that the program calls so.
   nameOf(text) {
     if (!this.source) return this.given[this.names.indexOf(text)].name;
-    return text in this.texts ? `the capture made of ${text}` : this.source.name;
+    return text in this.texts ? `the capture made of ${text}` : this.sourceName;
+  }
+
+  // What the text of both ends is called.
+  get sourceName() {
+    return this.source.packets ? `the text made of ${this.source.name}` : this.source.name;
   }
 
   // Its bytes.

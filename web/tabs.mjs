@@ -10,7 +10,7 @@ let shownOf = null, tabs = [], chosen = 0;
 function tabsOf(session, verdict, known) {
   const {names, options} = session, isPair = names.length === 2, found = [], fault = faultOf(session.answer);
   const text = async (isHere, ...words) => [textView(printed(await session.ask(...words)), isHere)];
-  if (known) found.push(['Why', async () => whyView(known)]);
+  if (known) found.push(['Why', async () => whyView(known, session)]);
   else if (verdict.kind === 'good') found.push(['Counts', async () => countsView(printed(session.answer))]);
   else if (fault) found.push(['What is wrong', async () => faultView(fault, session)]);
   if (verdict.kind !== 'fault') {

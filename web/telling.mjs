@@ -9,7 +9,7 @@ export const printed = answer => decode(answer.out) + decode(answer.err);
 const asSentence = line => `${line[0].toUpperCase()}${line.slice(1)}.`;
 
 // The lines of `tap` on whom it accuses, under which conditions, or on what shows that nobody can be.
-const ACCUSES = /^(?:side [ab] is at fault |side [ab], unit |both sides are accused: |.*, so neither node is accused).*$/gm;
+const ACCUSES = /^(?:side [ab] is (?:at fault|not accused) |[ab]'s Init says: |side [ab], unit |both sides are accused: |.*, so neither node is accused).*$/gm;
 
 // What it means that `tap` found no explanation.
 function unexplained(text) {
@@ -94,10 +94,11 @@ export function countsOf(text) {
   return {names: some.filter((_, i) => i % 2 === 0), a: values(sides.a), b: values(sides.b)};
 }
 
-// On what an answer of `tap` rests, and what it skipped, in sentences; of another answer nothing.
+// On what an answer of `tap` rests, and what it skipped, in sentences; of an answer over parts, which side is judged alone; else nothing.
 export function conditionsOf(text) {
   const lines = [...text.matchAll(/^(?:this assumes|this holds only|more bytes were skipped) .*$/gm)];
   const rests = lines.map(([line]) => asSentence(line));
+  rests.push(...[...text.matchAll(/^[ab] is judged alone .*$/gm)].map(([line]) => `Side ${line}.`));
   const rows = [...text.matchAll(/^([ab]) skipped maintenance messages (\d+) bytes between units (\d+)$/gm)];
   return [...rests, ...rows.filter(([, , messages, bytes]) => messages !== '0' || bytes !== '0')
     .map(([, side, messages, bytes]) => `Skipped of what ${side} sent: ${messages} maintenance messages, ${bytes} bytes between units.`)];

@@ -50,7 +50,8 @@ function excerptView(lines, line, mark = 'here') {
 
 const around = (bytes, line) => linesOf(bytes, Math.max(1, line - 4), line + 2);
 
-const mistakes = (fault, bytes) => linesOf(bytes, fault.line, fault.line).flatMap(wrongWith);
+const mistakes = (fault, bytes) =>
+  fault.fault === 'part' ? ['it heads a part of a run, which can’t be judged so'] : linesOf(bytes, fault.line, fault.line).flatMap(wrongWith);
 
 // A fault of a text in a sentence.
 export function brokenView(fault, session) {
@@ -79,7 +80,7 @@ function lateView({stage, lacks}, again) {
 // line; `judgeQueued` judges anew, as nodes with a queue.
 export function causeView(known, session, first, {judgeQueued, again}) {
   const {refusal, text, meaning, stage, isAccusedLate} = known;
-  const {refused, check, edit} = refusal, told = rowsOf(text, 'unit'), {texts, source, isWire} = session;
+  const {refused, check, edit} = refusal, told = rowsOf(text, 'unit'), {texts, isWire} = session;
   const meant = explanationOf(meaning).find(part => part.text).text;
   const said = sentence(refused, session.names.length === 1) || meant;
   const parts = [make('p', {className: 'cause'}, isWire ? `As far as it could be placed, ${lowered(said)}` : said)];
@@ -89,7 +90,7 @@ export function causeView(known, session, first, {judgeQueued, again}) {
   parts.push(make('div', {className: 'pair lines'}, ...columns.map(column => columnView(column, session.nameOf(column.side)))));
   const likely = edit.map(({words}) => words).join('; or ');
   const place = first.match(/^(?:unexplained|apart:) ([ab]) unit (\d+) line (\d+)/);
-  const where = place && `unit ${place[2]} of ${place[1]} (counted from 0), whose first byte is on line ${place[3]} of ${source.name}`;
+  const where = place && `unit ${place[2]} of ${place[1]} (counted from 0), whose first byte is on line ${place[3]} of ${session.sourceName}`;
   const found = [['On the wire', where], ['The rule', (check && check.rule) || meant],
     ['Accused', isWire || isAccusedLate ? '' : accusedOf({text})], ['The recording', likely && `likely at fault: ${likely}`]];
   const pairs = found.filter(([, value]) => value).map(([name, value]) => [name, codes(value)]);
@@ -171,15 +172,17 @@ function recordRows({kind, hint, bytes, words, ddcmp, routing, nsp}) {
 }
 
 // What small changes told, where none helps. `fewest` records have to follow.
-function changesWords({tried, records_behind: records}, fewest = 20) {
-  const follow = records === 1 ? '1 record follows' : `${records} records follow`;
+function changesWords({tried, left, left_from: from, records_behind: records}, session, fewest = 20) {
+  const first = from ? `, the nearest of them on line ${from.line} of ${session.nameOf(from.side)}` : '';
+  const more = left ? `; ${left} more were not tried, as the files are large${first}` : '';
+  const follow = (records === 1 ? '1 record follows' : `${records} records follow`) + more;
   if (records === null || records === undefined) return 'No small changes were tried, since a capture can’t be read again.';
   if (records < fewest) return `Small changes were not tried: only ${follow} (${fewest} are needed).`;
   return `${tried ? `None of ${tried} small changes nearby would make the pair acceptable` : 'No small changes were tried'} (${follow}).`;
 }
 
 // More of a refusal: what to look for, whether it is the recording, what the line says, and how both ends were.
-export function whyView({refusal, text, meaning, stage}) {
+export function whyView({refusal, text, meaning, stage}, session) {
   if (!refusal) return text ? [textView(text)] : [make('p', {}, 'The cause is being looked for.')];
   const {refused, record, state, link, edit, edits} = refusal;
   const isHere = ({text: words = ''}) => !/^(By whose fault|A pair that is refused)/.test(words);
@@ -188,7 +191,7 @@ export function whyView({refusal, text, meaning, stage}) {
   if (edits && stage === 'all') {
     const found = [make('p', {}, 'Likely. Each of these small changes would make the pair acceptable:'),
       make('ul', {}, ...edit.map(({words}) => make('li', {}, ...codes(words))))];
-    const none = make('p', {}, changesWords(edits));
+    const none = make('p', {}, changesWords(edits, session));
     parts.push(make('h3', {}, 'Is it the recording?'), ...(edit.length ? found : [none]));
   }
   if (record) parts.push(make('h3', {}, 'What the line says'), make('dl', {className: 'record'}, ...recordRows(record)));

@@ -11,12 +11,14 @@ const wordsOf = ({what, size, isOnce}, read) =>
   isOnce && read <= size ? `${what}, ${megabytes(read, size)} of ${megabytes(size, size)} MB` : `${what}, ${megabytes(read, read)} MB read`;
 
 // Work begins: `what` is done over texts of `size` bytes, which are read once or more often; `stop` is what the button does.
+// What was answered before is no longer shown where it `isAnew`.
 export function beginWork(work) {
   now = work;
   workTold(0);
   clearTimeout(timer);
   timer = setTimeout(() => {
     $('#work').hidden = false;
+    if (work.isAnew) $('#result').hidden = true;
     $('#status').textContent = work.what;
   }, $('#work').hidden ? QUIET : 0);
 }

@@ -1,11 +1,12 @@
-// The page's worker: it gets the compiled module once, and then runs of words on texts, each with a number that its answer has too. While a run goes
-// on it tells ten times a second how many bytes were read.
+// The page's worker: it gets the compiled module once, and then runs of words on texts, and packet captures, each with a number that its answer has
+// too. Meanwhile it tells ten times a second how many bytes were read.
+import {wireIn} from './packets.mjs';
 import {run} from './run.mjs';
 
 const PAUSE = 100;
 let module;
 
-onmessage = ({data: {number, words, texts, again, ...given}}) => {
+onmessage = ({data: {number, words, texts, again, packets, asked, ...given}}) => {
   if (given.module) {
     module = given.module;
     return;
@@ -13,12 +14,15 @@ onmessage = ({data: {number, words, texts, again, ...given}}) => {
   let read = 0, last = performance.now();
   const wasRead = count => {
     read += count;
+    tell();
+  };
+  const tell = () => {
     if (performance.now() - last < PAUSE) return;
     last = performance.now();
     postMessage({number, read});
   };
   try {
-    postMessage({number, ...run(module, words, texts, {again, wasRead})});
+    postMessage({number, ...(packets ? wireIn(packets, asked, upTo => { read = upTo, tell(); }) : run(module, words, texts, {again, wasRead}))});
   } catch (error) {
     postMessage({number, broken: String(error.message || error)});
   }

@@ -6,8 +6,8 @@ from reading.packets import DATA_BAD, HEADER_BAD, MALFORMED, read_nsp, read_pack
 
 # As many records are looked at for each row that is drawn.
 RECORDS_PER_ROW = 4
-# of the words between both sides
-COLUMNS = 30
+# of the words between both sides, of a side, and of a line number; with so many words both bars are in their places
+COLUMNS, SIDE, NUMBER = 30, 22, 6
 # what is beside a line with this letter
 NOTES = {'k': 'kept', 'd': 'dropped', 'x': 'composed'}
 
@@ -172,37 +172,35 @@ def fitted(words, room):
     return words if len(words) <= room else words[:room - 2] + '..'
 
 
-def cell(record, is_left):
-    """A line number with its note, in 22 columns."""
+def cell(record, is_left, width):
+    """A line number with its note, in so many columns."""
     if record is None:
-        return ' ' * 22 if is_left else ''
-    room = 20 - max(len(str(record.line)), 6)
-    note = fitted(note_of(record), room)
+        return ' ' * width if is_left else ''
+    room = width - 2 - max(len(str(record.line)), NUMBER)
+    note = note_of(record)
     return '%6d %*s ' % (record.line, room, note) if is_left else ' %-*s %d' % (room, note, record.line)
 
 
-def centred(words, fill):
-    """Words between two rows of this letter, 33 columns together."""
-    words = ' %s ' % fitted(words, COLUMNS)
-    left = (33 - len(words)) // 2
-    return fill * left + words + fill * (33 - len(words) - left)
+def centred(words, fill, width):
+    """Words between two rows of this letter, in so many columns."""
+    words = ' %s ' % words
+    left = (width - len(words)) // 2
+    return fill * left + words + fill * (width - len(words) - left)
 
 
-def sent_middle(sides, row, mark):
-    """The arrow of a sending."""
+def sent_words(sides, row, room):
+    """The words of a sending."""
     sending = row[0]
     again = 'again ' if is_again(sides, sending) else ''
     words = again + said(sending.digits)
-    if len(row) == 2:
-        mark = '><'[sending.side]
-        if said(row[1].digits) != said(sending.digits):
-            words += ' ~' + said(row[1].digits)
-            if len(words) > COLUMNS:
-                words = again + said(sending.digits, True) + ' ~' + said(row[1].digits, True)
-    return centred(words, '-') + mark if sending.side == 0 else mark + centred(words, '-')
+    if len(row) == 2 and said(row[1].digits) != said(sending.digits):
+        words += ' ~' + said(row[1].digits)
+        if len(words) > room:
+            words = again + said(sending.digits, True) + ' ~' + said(row[1].digits, True)
+    return words
 
 
-def came_words(sides, record, made):
+def came_words(sides, record, made, room):
     """The words of a receipt alone."""
     sender = 'ab'[1 - record.side]
     sending = next((other for other in sides[1 - record.side] if other.unit == record.hint), None)
@@ -211,7 +209,7 @@ def came_words(sides, record, made):
     if sending not in made or any(other.hint is not None and other.hint >= record.hint for other in sides[record.side][:record.line - 2]):
         words = '~' * is_changed + '%s of %s unit %d'
         full = words % (said(record.digits), sender, record.hint)
-        return full if len(full) <= COLUMNS else words % (said(record.digits, True), sender, record.hint)
+        return full if len(full) <= room else words % (said(record.digits, True), sender, record.hint)
     damage = '' if said(record.digits) == said(sending.digits) and not is_changed else ' ~' + said(record.digits)
     words = '%s of %s line %d' % (said(sending.digits), sender, sending.line) + damage
     if len(words) <= COLUMNS:
@@ -220,30 +218,66 @@ def came_words(sides, record, made):
     return '%s of %s line %d' % (said(sending.digits, True), sender, sending.line) + damage
 
 
-def middle(sides, row, last, made):
-    """The 34 columns between both sides."""
+def words_of(sides, row, made, room):
+    """The words between both sides."""
     record = row[0]
     if record.letter == 'u':
-        return ' ' * 34
+        return ''
     if record.letter == 'x':
-        words = ' packet%s ' % content_of(bytes.fromhex(record.digits))
-        return ('-%s-|' % words).ljust(34) if record.side == 0 else ('|-%s-' % words).rjust(34)
+        return 'packet' + content_of(bytes.fromhex(record.digits))
     if record.letter == 's':
-        comes = [other.hint for other in sides[1 - record.side] if other.hint is not None and other.hint >= record.unit]
-        # the refused record is told before those after it; and of a text that departs it is not known what it does not have
-        departs = any(other.letter == '!' for side in sides for other in side[-1:])
-        mark = '.' if comes[:1] == [record.unit] or (record is last or departs) and not comes else 'x'
-        return sent_middle(sides, row, mark)
-    words = 'noise ~' + said(record.digits) if record.letter == 'n' else came_words(sides, record, made)
-    return '<' + centred(words, '.') if record.side == 0 else centred(words, '.') + '>'
+        return sent_words(sides, row, room)
+    return 'noise ~' + said(record.digits) if record.letter == 'n' else came_words(sides, record, made, room)
+
+
+def mark_of(sides, row, last):
+    """How the arrow of a sending ends."""
+    record = row[0]
+    if len(row) == 2:
+        return '><'[record.side]
+    comes = [other.hint for other in sides[1 - record.side] if other.hint is not None and other.hint >= record.unit]
+    # the refused record is told before those after it; and of a text that departs it is not known what it does not have
+    departs = any(other.letter == '!' for side in sides for other in side[-1:])
+    return '.' if comes[:1] == [record.unit] or (record is last or departs) and not comes else 'x'
+
+
+def middle(sides, row, last, words, width):
+    """The columns between both sides."""
+    record = row[0]
+    if record.letter == 'u':
+        return ' ' * width
+    if record.letter == 'x':
+        words = ' %s ' % words
+        return ('-%s-|' % words).ljust(width) if record.side == 0 else ('|-%s-' % words).rjust(width)
+    if record.letter == 's':
+        arrow, mark = centred(words, '-', width - 1), mark_of(sides, row, last)
+        return arrow + mark if record.side == 0 else mark + arrow
+    arrow = centred(words, '.', width - 1)
+    return '<' + arrow if record.side == 0 else arrow + '>'
+
+
+def widths_of(sides, row, made):
+    """The columns of both sides, and the words between them. A bar moves where the words beside it need that: for a user's into the empty middle, for
+    a unit's to the side that sent."""
+    record = row[0]
+    widths = [SIDE, SIDE]
+    if record.letter == 'u':
+        widths[record.side] = max(SIDE, max(len(str(record.line)), NUMBER) + len(note_of(record)) + 2)
+        return widths, ''
+    sender = record.side if record.letter in 'sx' else 1 - record.side
+    room = COLUMNS + SIDE - 1 - (max(len(str(record.line)), NUMBER) if sender == record.side else 0)
+    words = fitted(words_of(sides, row, made, room), room)
+    widths[sender] -= max(len(words) - COLUMNS, 0)
+    return widths, words
 
 
 def text_of(sides, row, last, made):
     """The text of a row."""
     cells = [next((record for record in row if record.side == side), None) for side in (0, 1)]
-    right = cell(cells[1], False)
-    right = '%-22s  <== refused' % right if row[0] is last else right
-    return '%s|%s|%s\n' % (cell(cells[0], True), middle(sides, row, last, made), right)
+    widths, words = widths_of(sides, row, made)
+    right = cell(cells[1], False, widths[1])
+    right = '%-*s  <== refused' % (widths[1], right) if row[0] is last else right
+    return '%s|%s|%s\n' % (cell(cells[0], True, widths[0]), middle(sides, row, last, words, 78 - sum(widths)), right)
 
 
 def rows_and_more(a, b, refused, from_, rows):

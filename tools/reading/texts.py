@@ -5,9 +5,9 @@ import re
 from reading.packets import CONTROL, DATA_BAD, HEADER_BAD, MALFORMED, NAK_REASONS, read_unit
 from reading.rows import Departs
 
-LONGEST, MOST_HINT, MOST_ADDRESS = 131_081, 999_999_999_999_999_999, 65_535
+LONGEST, MOST_HINT, MOST_ADDRESS, BEFORE = 131_081, 999_999_999_999_999_999, 65_535, -1
 NUMBER, BYTES = '(0|[1-9][0-9]{0,18})', '(-|(?:[0-9a-f]{2})+)'
-HEAD = re.compile(r'ddcap ([123]) NODE NODE'.replace('NODE', NUMBER + r'\.' + NUMBER))
+HEAD, PART_HEAD = (re.compile(head.replace('NODE', NUMBER + r'\.' + NUMBER)) for head in (r'ddcap ([123]) NODE NODE', r'ddcap (4) NODE NODE part'))
 
 # the lines of all formats, and those of format 3 besides, each by its verb, or by its event
 FORMS = {
@@ -26,8 +26,8 @@ MOST_BYTES = {**dict.fromkeys(['s', 'n', 'r', 'k', 'd'], 16_393), 'x': 16_383, '
 # ---- what departs from a format
 
 def format_of(line):
-    """The format in the head of a capture, or None where this is none."""
-    words = HEAD.fullmatch(line)
+    """The format in the head of a capture, 4 in that of a part of a run, or None where this is no head."""
+    words = HEAD.fullmatch(line) or PART_HEAD.fullmatch(line)
     if words is None:
         return None
     numbers = [int(word) for word in words.groups()[1:]]
@@ -44,7 +44,9 @@ def name_of(line):
 def fault_of(line, form, mark):
     """How a record departs from this format, or None. `mark` is where distances are counted from."""
     name, words = name_of(line)
-    forms = {**FORMS, **NEAR_FORMS} if form == 3 else FORMS
+    forms = {**FORMS, **NEAR_FORMS} if form in (3, 4) else FORMS
+    is_before = form == 4 and name in RECEIPTS and words[:1] == ['-']
+    words = ['0'] * is_before + words[is_before:]
     is_event = line.startswith('u ')
     if name not in forms or is_event != (len(name) > 1):
         return 'syntax'
@@ -54,21 +56,28 @@ def fault_of(line, form, mark):
     data = words.pop() if name in MOST_BYTES else ''
     if is_event and not all(1 <= int(address) <= MOST_ADDRESS for address in words):
         return 'syntax'
-    if name in RECEIPTS and not is_hint(words[0], mark):
+    if name in RECEIPTS and not is_hint(words[0], mark, MOST_HINT - (form == 4)):
         return 'syntax'
     return 'too long' if data != '-' and len(data) // 2 > MOST_BYTES.get(name, 0) else None
 
 
-def is_hint(word, mark):
-    """Whether the word is a hint, or a distance from the mark."""
-    return not (word.startswith('-0') or word.startswith('-') and mark is None) and 0 <= int(word) + (mark or 0) <= MOST_HINT
+def is_hint(word, mark, most):
+    """Whether the word is a hint, of at most so much, or a distance from the mark."""
+    return not (word.startswith('-0') or word.startswith('-') and mark is None) and 0 <= int(word) + (mark or 0) <= most
+
+
+def hint_of(word, mark):
+    """The hint of a receipt, or BEFORE where it was sent before the other capture begins."""
+    return BEFORE if word == '-' else int(word) + (mark or 0)
 
 
 class Text:
-    """A capture: its format, its lines up to the first that departs, each with the hint that it has, and what is said of that one, or ''."""
+    """A capture, or with `of_part` a part of a run: its format, its lines up to the first that departs, each with the hint that it has, and what is
+    said of that one, or ''."""
 
-    def __init__(self, text, letter):
+    def __init__(self, text, letter, of_part=False):
         self.form, self.lines, self.hints, self.said, mark = None, [], [], '', None
+        self.forms = (4,) if of_part else (1, 2, 3)
         *whole, rest = text.split('\n')
         for number, line in enumerate(whole + [rest] * (rest != '' or not whole), 1):
             fault = self.fault_at(line, number <= len(whole), mark)
@@ -79,7 +88,7 @@ class Text:
                 self.form = format_of(line)
                 mark = 0 if self.form == 2 else None
             is_receipt = line.split(' ')[0] in RECEIPTS
-            hint = int(line.split(' ')[1]) + (mark or 0) if is_receipt else None
+            hint = hint_of(line.split(' ')[1], mark) if is_receipt else None
             mark = hint + 1 if is_receipt and self.form == 2 else mark
             self.lines.append(line)
             self.hints.append(hint)
@@ -91,7 +100,8 @@ class Text:
         if not is_whole:
             return 'syntax'
         if self.form is None:
-            return 'syntax' if format_of(line) is None else None
+            form = format_of(line)
+            return None if form in self.forms else 'part' if form == 4 else 'syntax'
         return fault_of(line, self.form, mark)
 
 

@@ -1,7 +1,7 @@
 """What `ddcap why` says of a refused pair, by the reading of tools/reading/judging.py, apart from the program. `said(a, b)` gives it, or None where
-nothing is refused: the JSON `lines` `refused`, `record` without the fields of its bytes, `state`, `link`, `begins_running`, `dc_waited`, `queued`,
-`without_link` and `line_alone` (tools/reading/less.py); the `rows` of both sides; how many records are `behind` it; and the `check` where bytes are compared
-(tools/reading/bytes.py), else None. `said_alone(a, line)` gives the lines and rows of one end without the other (tools/reading/alone.py), with `line`
+nothing is refused: the JSON `lines` `refused`, `record` without the fields of its bytes, `state`, `link`, `begins_running`, `dc_waited`,
+`other_node`, `queued`, `without_link` and `line_alone` (tools/reading/less.py); the `rows` of both sides; how many records are `behind` it; and the
+`check` where bytes are compared (tools/reading/bytes.py), else None. `said_alone(a, line)` gives the lines and rows of one end without the other (tools/reading/alone.py), with `line`
 of its station alone; as `check`, what the other end could have sent, where that is told by numbers. `lines_with_queues(a, b)` gives the lines of `why
 --queued`, of the pair as one of nodes with queues."""
 from collections import namedtuple
@@ -37,6 +37,36 @@ def accused(number, kind):
 def begins_running(number, records):
     """Whether a rule that asks for a state, or a link, is broken after these records, none of which tells in which state the line is."""
     return number in OF_BEFORE and not any(' '.join(words) in BEGINNINGS for words in records)
+
+
+ROUTERS, END_NODE = (1, 2), 3  # in bits 0 and 1 of the fourth byte of an Init message
+
+
+def init_kind(packet):
+    """What a packet says that its sender is, or None."""
+    if len(packet or ()) < 4 or packet[0] != 1:
+        return None
+    kind = packet[3] & 3
+    return 'router' if kind in ROUTERS else 'end node' if kind == END_NODE else None
+
+
+def inits(sides):
+    """What the first Init message that tells it says, by its side; `sides` are the records of each."""
+    found = {}
+    for verb, letters in (('s', 'ab'), ('k', 'ba')):
+        for letter, records in zip(letters, sides):
+            units = [read_unit(words[-1]) for words in records if words[0] == verb]
+            kinds = [kind for unit in units if unit.kind == 'data' and (kind := init_kind(unit.packet))]
+            if kinds:
+                found.setdefault(letter, kinds[0])
+    return found
+
+
+def other_node(number, words, nodes, is_pair):
+    """The third node that a refused record names, by whose head it goes between these; None also where heads do not pair."""
+    packet = packet_of(words) if number == 16 and not (is_pair and words[0] in RECEIPTS) else None
+    named = [node for node in (packet.source, packet.destination) if node not in nodes] if packet else []
+    return '%d.%d' % divmod(named[0], 1024) if named else None
 
 
 def excused(accuses, refused, queued):
@@ -197,9 +227,9 @@ def queued_line(printed):
             'number': int(number), 'name': name, **accuses}
 
 
-def known_lines(refused, records, queued, is_pair=True):
+def known_lines(refused, records, queued, others, is_pair=True):
     """What is known of the state of the line and, where that is asked, of nodes with queues; and the refused line says who is accused by that.
-    `records` are those of its side, up to the refused one."""
+    `records` are those of its side, up to the refused one, and `others` which node it names besides the two and what both say that they are."""
     lines, number = [queued] if queued else [], refused['number']
     if queued:
         refused['accuses'] = excused(refused['accuses'], refused, queued)
@@ -209,6 +239,10 @@ def known_lines(refused, records, queued, is_pair=True):
     for excuse in [what for what, is_so in excuses if is_so][:1]:
         refused['accuses'] = 'nobody'
         lines.insert(0, {'what': excuse, 'side': refused['side']})
+    node, kinds = others
+    if node:
+        refused['accuses'] = 'nobody'
+        lines.insert(0, {'what': 'other_node', 'side': refused['side'], 'node': node, 'init_a': kinds.get('a'), 'init_b': kinds.get('b')})
     return lines
 
 
@@ -231,7 +265,8 @@ def said(a, b):
         lines += [link_of(other, link) for link in sides[other].links.links if link.phase != 'Ended']
         rows += side_rows(other, sides[other], named_by(words)[::1 if other == letter else -1])
     queued = queued_line(judged(RULES, a, b, queued=True)) if number in BY_QUEUES else None
-    lines += known_lines(lines[0], side.records[:place + 1], queued)
+    others = other_node(number, words, (side.own, side.peer), True), inits([each.records[:each.next] for each in sides])
+    lines += known_lines(lines[0], side.records[:place + 1], queued, others)
     lines += lines_of_pair((a, b), number)
     behind = sum(len(each.records) - each.next for each in sides) - 1
     return Said(lines, rows, behind, check_of(number, side, sides[1 - letter], 'ba'[letter], words))
@@ -253,7 +288,8 @@ def lines_with_queues(a, b):
     for other in (letter, 1 - letter):
         lines.append(state_of(other, sides[other]))
         lines += [queued_link_of(other, link) for link in sides[other].links.links if not link.is_dead()]
-    return lines + known_lines(lines[0], sides[letter].records[:place + 1], None)
+    others = other_node(number, words, (sides[letter].own, sides[letter].peer), True), inits([each.records[:each.next] for each in sides])
+    return lines + known_lines(lines[0], sides[letter].records[:place + 1], None, others)
 
 
 # ---- one end alone
@@ -284,7 +320,8 @@ def said_alone(text, line):
     }, record_of(words), state_of(0, side)]
     lines += [link_of(0, link) for link in side.links.links if link.phase != 'Ended']
     queued = queued_line(judged_alone(text, queued=True)) if number in BY_QUEUES and not line else None
-    lines += known_lines(lines[0], side.records[:place + 1], queued, is_pair=False) + lines_of_end(text, number, line=line)
+    others = other_node(number, words, (side.own, side.peer), False), inits([side.records[:place]])
+    lines += known_lines(lines[0], side.records[:place + 1], queued, others, is_pair=False) + lines_of_end(text, number, line=line)
     allowed = allowed_there(number, side, text.split()[2:4], named_by(words)) if accuses == 'other end' else None
     return Said(lines, list(side_rows(0, side, named_by(words))), None, allowed)
 

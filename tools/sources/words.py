@@ -6,7 +6,7 @@ TOP = os.path.dirname(os.path.dirname(os.path.dirname(os.path.realpath(__file__)
 TABLE = os.path.join(TOP, 'crates', 'command_words', 'src', 'table.rt')
 ROW = re.compile(r'^    Word \{\n(.*?)^    \},$', re.MULTILINE | re.DOTALL)
 PART = re.compile(r'\b(Needed|Optional|Several|Flag|Valued)\("(\w+)"\)')
-LINE = re.compile(r'\b(?:Use|UseOfMore)\(\s*"(.*?)\\n"')
+LINE = re.compile(r'\busage:\s*"(.*?)\\n"')
 
 
 class Word:

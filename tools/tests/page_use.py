@@ -1,11 +1,11 @@
 """The page as somebody uses it: rows of files that are chosen, and what has to be seen then. tools/tests/test_page runs them in a browser."""
 import gzip
 import os
-import re
 import time
 
 from lists.pair_lists import lines_below
 from lists.pairs import capture_of
+from tests.page_line import PARTS as LINE_PARTS
 from tests.page_work import PARTS
 from tests.program import TOP
 
@@ -19,8 +19,8 @@ STRANGE = [
     ('empty.a', b'', 'is empty', None),
     ('packed.a', gzip.compress(GOOD), 'is a gzip file', 'Passed'),
     ('torn.gz', gzip.compress(GOOD)[:20], 'is a gzip file', 'could not be unpacked'),
-    ('line.pcap', bytes.fromhex('d4c3b2a10200040000000000'), 'is a packet capture (pcap)', None),
-    ('line.pcapng', bytes.fromhex('0a0d0d0a1c0000004d3c2b1a'), 'is a packet capture (pcapng)', None),
+    ('line.pcap', bytes.fromhex('d4c3b2a10200040000000000'), 'no packet of TCP or UDP is in the file', None),
+    ('line.pcapng', bytes.fromhex('0a0d0d0a1c0000004d3c2b1a'), 'no packet of TCP or UDP is in the file', None),
     ('some.zip', b'PK\x03\x04' + bytes(20), 'is a zip archive', None),
     ('windows.a', GOOD.replace(b'\n', b'\r\n'), 'with CR at the end of its lines', 'Passed'),
     ('marked.a', b'\xef\xbb\xbf' + GOOD, 'with a byte order mark', 'Passed'),
@@ -232,9 +232,8 @@ def queues(use):
     use.expect('and said', 'A queue between NSP and DDCMP was allowed for.' in use.text('#verdict .meaning'))
     for number, words in (1, 'DC 2>1'), (2, 'DC 2>1'), (3, 'went through 15 of 88 rows'):  # what comes after the message
         use.click('#tab-%d' % number)
-        use.browser.value('new Promise(later => setTimeout(later, 150))')
-        shown = use.browser.value('(it => it.textContent + (it.firstChild.shadowRoot || it).textContent)(document.querySelector("#panel"))')
-        use.expect('tab %d of nodes with queues: %s' % (number, shown), words in shown)
+        shown = '(it => it.textContent + (it.firstChild?.shadowRoot || it).textContent)(document.querySelector("#panel"))'
+        use.expect('tab %d of nodes with queues' % number, use.browser.until('%s.includes(%r)' % (shown, words)))
     use.clear()
     use.expect('the next end with a queue', use.drop(pair[0], on='#end-a') == 'Passed')
     use.expect('and without', use.judge('#plain') == 'Refused')
@@ -263,11 +262,6 @@ def strange_files(use):
             use.click('#note button')
             said = use.said()
             use.expect('%s, mended: %s' % (name, said), after in said)
-    with open(os.path.join(TOP, 'docs', 'WIRE.md')) as page:
-        recipe = re.search(r'^tools/wire_pcap line\.pcap > line\.wire', page.read(), re.M)[0]
-    use.clear()
-    use.choose('a', use.file("it's.pcap", STRANGE[3][1]))
-    use.expect('the command for a packet capture', use.text('#note pre') == recipe.replace('line.pcap', "'it'\\''s.pcap'"))
     use.clear()
     large = use.file('large.a', b'')
     os.truncate(large, 2 << 30)
@@ -384,7 +378,7 @@ def expectations(browser, page, folder):
     """How many things were expected of the page, and those that did not hold."""
     use = Use(browser, page, folder)
     opened(use)
-    for part in (several_drops, texts_that_do_not_pair, causes, queues, strange_files, tabs_and_keys, by_keys_alone, *PARTS, lacking):
+    for part in (several_drops, texts_that_do_not_pair, causes, queues, strange_files, tabs_and_keys, by_keys_alone, *LINE_PARTS, *PARTS, lacking):
         part(use)
     for error in browser.errors:
         use.expect('an error of the page: ' + error, False)

@@ -10,6 +10,15 @@ FOLLOW = 3_000  # lines after what is refused
 # What its worker does at each read, and what it does in the test: so that judging takes over half a second on any machine.
 READS, READS_SLOWLY = 'read += count;', 'read += count; if (words[0] === "check") for (const end = Date.now() + 4; Date.now() < end;);'
 
+# In the page: large files are read slowly.
+SLOW_READING = '''(() => {
+  const read = Blob.prototype.arrayBuffer;
+  Blob.prototype.arrayBuffer = async function () {
+    if (this.size > 1e6) await new Promise(later => setTimeout(later, 2000));
+    return read.call(this);
+  };
+})()'''
+
 # In the page: keeps what it says while it works, and whether a verdict is to be seen then.
 WATCH = '''(() => {
   globalThis.seen = [];
@@ -79,6 +88,31 @@ def working(use):
     use.expect('and can be begun again', use.judge('#note button') == 'Refused')
 
 
+def drops_while_working(use):
+    """A drop ends what is judged; of two drops the last one counts, whichever is read first; Stop answers at once, while a file is read too."""
+    browser, pair = use.browser, long_pair(use.folder)
+    with open(use.page) as page:
+        slow = use.file('slow.html', page.read().replace(READS, READS_SLOWLY).encode())
+    browser.open('file://' + slow)
+    browser.value('ddcap.ready')
+    browser.drop('h1', *pair)
+    browser.until('!document.querySelector("#work").hidden && /^judging/.test(document.querySelector("#work span").textContent)')
+    use.expect('another drop', use.drop(os.path.join(TOP, 'examples', 'two_way_links.wire')) == 'Accepted')
+    use.expect('takes the place of the first', 'two_way_links.wire' in use.text('#end-a') and browser.value('document.querySelector("#work").hidden'))
+    browser.value(SLOW_READING)
+    browser.drop('h1', *pair)
+    use.expect('one that is read sooner', use.drop(use.file('z.a', b'ddcap 1 1.1 1.2\nu start\n')) == 'Passed')
+    browser.value('new Promise(later => setTimeout(later, 2500))')
+    use.expect('stays', 'z.a' in use.text('#end-a') and use.text('#verdict h2') == 'Passed')
+    browser.drop('h1', *pair)
+    browser.until('!document.querySelector("#work").hidden && /^reading/.test(document.querySelector("#work span").textContent)')
+    browser.value('globalThis.pressed = performance.now()')
+    use.click('#stop')
+    took = browser.value('document.querySelector("#work").hidden ? performance.now() - pressed : 1e9')
+    use.expect('Stop answers at once: %d ms' % took, took < 500 and 'Reading was stopped.' in use.text('#note'))
+    use.expect('and what was there stays', 'z.a' in use.text('#end-a'))
+
+
 def sides_by_name(use):
     """Files keep the side that their names tell, wherever they are dropped together or one after another."""
     good, other = b'ddcap 1 1.1 1.2\nu start\ns 0506c00000017595\n', b'ddcap 1 1.2 1.1\nu start\nr 0 0506c00000017595\n'
@@ -118,4 +152,4 @@ def titles_and_focus(use):
     use.expect('the first title', use.browser.value('document.title').startswith('ddcap: '))
 
 
-PARTS = [sides_by_name, titles_and_focus, working]
+PARTS = [sides_by_name, titles_and_focus, working, drops_while_working]

@@ -1,5 +1,5 @@
-/* recorder_calls FILE FORM: calls examples/recorder.h, with this format, as a node would that made a capture in format 1 or 3, which is read from
-   standard input; tells each call that was not taken, as `line 3`. FORM 0 is the format that recorder_open has. */
+/* recorder_calls FILE FORM: calls examples/recorder.h, with this format, as a node would that made a capture in another one than 2, which is read
+   from standard input; tells each call that was not taken, as `line 3`. FORM 0 is the format that recorder_open has. */
 #include "recorder.h"
 #include <stdlib.h>
 #include <string.h>
@@ -29,7 +29,7 @@ static int called(struct recorder *log)
         return recorder_message(log, line + 2, bytes, spelled(last + 1));
     }
     size_t length = spelled(last + 1);
-    long long number = strtoll(hint, NULL, 10);
+    long long number = hint[0] == '-' && hint[1] == ' ' ? RECORDER_BEFORE : strtoll(hint, NULL, 10);
     if (number == log->next) number = RECORDER_NEXT;
     switch (line[0]) {
     case 's': return recorder_sent(log, bytes, length);

@@ -5,6 +5,10 @@ OF_FORMAT_3 = 'u boot', 'u abort 7', 'd 4 8101', 'd 9 -', 'x 02', 'x -', 'u inte
 EACH_LINE = '\n'.join(['ddcap 3 1.1 63.1023', 'u start', 'u open 7', 's 05', 's -', 'r 0 05', 'k 3 -', *OF_FORMAT_3, 'r 12 81', 'n -', 'n 0505',
                        'u accept 9 65535', 'u reject 1 2', 'u in 7 68', 'u up 7 -', 'u close 7', 'u halt']) + '\n'
 
+# receipts that a part of a run has, and other captures have not; and one that a part has not, though format 3 has it
+OF_PARTS = 'r - 05', 'k - -', 'd - 81'
+LAST_OF_PARTS, LAST = ('r %d 05' % (10 ** 18 - back) for back in (2, 1))
+
 # the longest lines, and some that are a byte too long or have a number out of range
 LONGEST = 's %s\nu in 1 %s\nx %s\nu interrupt 1 %s\n' % tuple('05' * most for most in (16_393, 65_535, 16_383, 16))
 LONG = 's %s\nr 0 %s\nr %d 05\nu in 1 %s\nx %s\nu interrupt 1 %s\n' % (

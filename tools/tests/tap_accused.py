@@ -13,7 +13,8 @@ from tests.nodes.small_sessions import Stuck
 from tests.passed import wire_text
 from tests.program import IS_QUICK, TOP, share
 from tests.tap_texts import ANSWERS, STRT, UP, data_of, packet_of, scripts, text_of
-from tests.tap_words import AT_FAULT, BOTH, BROKEN, DISCARDED, NOBODY, at_fault, discarded, fault_of_answer, unexplained, unless
+from tests.tap_words import (AT_FAULT, BOTH, BROKEN, DISCARDED, NOBODY, at_fault, discarded, fault_of_answer, spared, unexplained,
+                             unless)
 
 CALL, CONFIRM, ACKNOWLEDGED = '18000001000102f401', '28010002000102f40100', '04020001000080'
 AGAIN = 'record again'
@@ -80,9 +81,8 @@ def other_subchannel(data):
 
 EXCEPTED = (
     ('an acknowledgement goes back', acknowledgement_goes_back(), 'b', 3, 'queue', '21 WrongAck'),
-    ('a packet of a third node', linked().say('a', None, '0202040304' + '00' + CALL), 'a', 4, 'router', '16 WrongNode'),
-    ('a packet to a third node', linked().say('a', None, '0203040104' + '00' + CALL), 'a', 4, 'other router', '16 WrongNode'),
-    ('a packet to a third node from b', linked().say('b', None, '0203040204' + '00' + CALL), 'b', 2, 'other router', '16 WrongNode'),
+    ('a packet from the other node to itself', linked().say('a', None, '0202040204' + '00' + CALL), 'a', 4, 'router', '16 WrongNode'),
+    ('a packet from a node to itself', linked().say('a', None, '0201040104' + '00' + CALL), 'a', 4, None, '16 WrongNode'),
     ('a DI to 0', Line().say('a', CALL).say('a', '3800000100000000'), 'a', 3, 'gave up', '18 NoLink'),
     ('a segment that goes again changed', linked().say('a', segment('a', 1)).say('a', segment('a', 1, '62')), 'a', 5, 'other subchannel',
      '20 WrongSegment'),
@@ -94,6 +94,27 @@ def excepted():
     for name, line, side, unit, exception, reason in EXCEPTED:
         number = len(line.units) + 1
         yield name, line.text(), unexplained(side, unit, number, reason, at_fault(side, unit, number, exception))
+
+
+# ---- packets of other nodes, of which nobody is accused
+
+def spares():
+    """Cases, likewise: of which units nobody is accused, since the line may lead to a router; and whose Init message says so."""
+    for name, side, packet in (('of a third node', 'a', '0202040304'), ('to a third node', 'a', '0203040104'),
+                               ('to a third node', 'b', '0203040204')):
+        line = linked().say(side, None, packet + '00' + CALL)
+        unit, number = (4 if side == 'a' else 2), len(line.units) + 1
+        yield ('a packet %s from %s' % (name, side), line.text(),
+               unexplained(side, unit, number, '16 WrongNode', NOBODY, spared(side, unit, number, '1.3')))
+    line = Line().say('b', None, '01020402' + '4002020000').say('a', None, '01010403' + '4002020000').say('a', None, '0203040104' + '00' + CALL)
+    line.say('a', None, '0b01040000').say('b', None, '0201040304' + '00' + CALL)
+    inits = "a's Init says: end node\nb's Init says: router\n"
+    yield ('Init messages of a router and an end node', line.say('a', CALL).say('b', CONFIRM).text(), unexplained(
+        'a', 3, 7, '16 WrongNode', NOBODY, spared('a', 3, 7, '1.3'), spared('b', 2, 9, '1.3'), inits))
+    line = linked().say('a', None, '0203040104' + '00' + CALL)
+    line.units.append(('b', data_of(9, 3)))
+    yield ('a packet to a third node, and a wrong number of b', line.text(), unexplained(
+        'a', 4, 8, '16 WrongNode', at_fault('b', 2, 9), spared('a', 4, 8, '1.3')))
 
 
 # ---- accusations beside each other
@@ -132,7 +153,7 @@ def damaged(side, unit, line):
 
 def not_between(side):
     return broken_words('no packet of side %s is between the two nodes of the head' % side,
-                        'correct the head, or use tap --line if the line joins routers')
+                        'correct the head, or use tap --line if the line leads to a router')
 
 
 EXCHANGED = broken_words('the packets of both sides have the addresses of the head exchanged', 'exchange them in the head')
@@ -159,7 +180,7 @@ def broken():
         'a', 4, 8, '7 WrongNumber', at_fault('a', 4, 8), skipped(size, 'b', 'b', 3, 11, ' of anything else')), none, none)
 
 
-CASES = [*((*case, (0, 0), (0, 0)) for case in (*excepted(), *named())), *broken()]
+CASES = [*((*case, (0, 0), (0, 0)) for case in (*excepted(), *spares(), *named())), *broken()]
 
 
 def faults_of_accused(tap):
@@ -235,7 +256,6 @@ def faults_of_cuts(tap, cuts):
 
 # the exceptions with which they may be accused
 EXCUSED = {
-    right.PassesOn: 'router',
     right.GivesUp: 'gave up',
     right.AcknowledgesLate: 'queue',
     right.AcknowledgesElsewhere: 'other subchannel',
@@ -268,7 +288,7 @@ def faults_of_right_nodes(tap):
             out, err, status = tap.tap(wire_of_session(bug, sides, seed))
             wanted = EXCUSED.get(bug.node)
             accused = [(side, words) for side, _, _, words in AT_FAULT.findall(out)]
-            is_right = all(wanted and side in sides and words == unless(side, wanted) for side, words in accused)
+            is_right = all(wanted and side in sides and words == unless(wanted) for side, words in accused)
             may_discard = all(bug.node in DISCARDS and side in sides for side, _, _ in DISCARDED.findall(out))
             excused |= {bug.node for _ in accused}
             fine = status in (0, 1) and is_right and may_discard

@@ -7,11 +7,10 @@ BOTH = 'both sides are accused: the recording is more likely at fault than both 
 RESTS = 'ddcap why shows the unit, but whom it accuses depends on what tap assumed\n'
 APART = 'each side is explained by itself; this accuses neither node\n'
 
-# Of each exception what an accusation says of it, and its word in JSON; %s is the other side.
+# Of each exception what an accusation says of it, and its word in JSON.
 EXCEPTIONS = {
     'queue': (', and its acknowledgements do not wait in a queue of their own', 'no acknowledgement queue'),
     'router': (', and it is no router', 'no router'),
-    'other router': (', and side %s is no router', 'other side no router'),
     'gave up': (', and its user did not give up the call', 'no call given up'),
     'other subchannel': (', and no message of the other subchannel acknowledged data', 'no acknowledgement in the other subchannel'),
 }
@@ -19,25 +18,33 @@ AT_FAULT = re.compile(r'^side ([ab]) is at fault at its unit (\d+) \(line (\d+)\
                       'no correct node sends this, whatever it received$', re.MULTILINE)
 DISCARDED = re.compile(r'^side ([ab]), unit (\d+) \(line (\d+)\), if the recording is whole: '
                        'a correct node sends this only if it discarded packets that it had composed$', re.MULTILINE)
+SPARED = re.compile(r'^side ([ab]) is not accused of its unit (\d+) \(line (\d+)\): (\S+) is another node; '
+                    'if the line leads to a router, use tap --line$', re.MULTILINE)
+INIT = re.compile(r"^([ab])'s Init says: (router|end node)$", re.MULTILINE)
 BROKEN = re.compile(r'^(.*), so neither node is accused( of anything else)?: (.*)$', re.MULTILINE)
 
 
-def unless(side, exception):
-    """The condition that an accusation of this side has besides, or nothing."""
-    words = EXCEPTIONS[exception][0] if exception else ''
-    return words % 'ba'['ab'.index(side)] if '%s' in words else words
+def unless(exception):
+    """The condition that an accusation has besides, or nothing."""
+    return EXCEPTIONS[exception][0] if exception else ''
 
 
 def at_fault(side, unit, line, exception=None):
     """That a side is at fault, unless this exception is true of it."""
     return ('side %s is at fault at its unit %d (line %d), if the recording is whole%s: no correct node sends this, whatever it received\n'
-            % (side, unit, line, unless(side, exception)))
+            % (side, unit, line, unless(exception)))
 
 
 def discarded(side, unit, line):
     """That a side is at fault, unless it discarded packets."""
     return ('side %s, unit %d (line %d), if the recording is whole: a correct node sends this only if it discarded packets that it had composed\n'
             % (side, unit, line))
+
+
+def spared(side, unit, line, node):
+    """That a side is not accused, since the packet names this node."""
+    return ('side %s is not accused of its unit %d (line %d): %s is another node; if the line leads to a router, use tap --line\n'
+            % (side, unit, line, node))
 
 
 def unexplained(side, unit, line, reason, *lines):

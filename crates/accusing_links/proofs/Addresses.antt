@@ -1,18 +1,8 @@
 -- The links of a node keep the addresses of the node and of the other one, whatever they do.
-use Rattle.std.proofs.Common.{◌≡◌, ℕ, true, Option, List, ◌&&◌, eqb, subst}
-use Rattle.dna_station.specs.declared.link_refusal.LinkRefusal.TheVariants.{WrongNode}
-use Rattle.dna_links.specs.declared.queue.Queues.{Queues}
-use Rattle.dna_links.specs.declared.tag.LinkTag.{LinkTag}
-use Rattle.dna_links.specs.Links.{LinkOf, LinksOf, Carried}
-use Rattle.dna_links.specs.Table.{Effect, user_row, sending_row, arrival_row}
-use Rattle.dna_links.specs.LinkBook.{after, of_none}
-use Rattle.dna_links.specs.Sending.{Sent, sent_as}
-use Rattle.dna_links.specs.WireSegments.{WireSegments, wire_segments}
-use Rattle.dna_links.specs.WireLinks.{WireLinks, wire_links_user, wire_links_sent, wire_links_arrived}
-use Rattle.dna_links.specs.Arriving.{PartnerRule}
-use Rattle.dna_links.specs.User.{LinkEventValue}
-use Rattle.accusing_links.proofs.Answered.{Good, good_check}
-use Rattle.accusing_links.proofs.Along.{OfRow, sends_by_row}
+use Rattle.accusing_links.proofs.Prelude.{◌≡◌, ℕ, true, Option, List, ◌&&◌, eqb, subst, WrongNode, Queues, LinkTag, LinkOf, LinksOf, Carried}
+use Rattle.accusing_links.proofs.Prelude.{Effect, user_row, sending_row, arrival_row, after, of_none, Sent, sent_as, WireSegments, wire_segments}
+use Rattle.accusing_links.proofs.Prelude.{WireLinks, wire_links_user, wire_links_sent, wire_links_arrived, PartnerRule, LinkEventValue}
+use Rattle.accusing_links.proofs.{Answered.Good, Answered.good_check, Along.OfRow, Along.sends_by_row}
 use Rattle.accusing_links.proofs.Rows.{AreKept, after_kept, user_kept, arrived_kept, always_shows, always_sends}
 
 abbrev Whatever : OfRow

@@ -1,10 +1,6 @@
 -- What becomes of all links of a node where something is known of the last acknowledgement sent of those with one far address.
-use Rattle.std.proofs.Common.{◌≡◌, ℕ, Some, List, [], ◌∷◌, ◌++◌, map, zero, suc, sym, subst}
-use Rattle.std.specs.Prelude.{slice_get, slice_set}
-use Rattle.dna_links.specs.declared.queue.Queues.{Queues}
-use Rattle.dna_links.specs.Links.{LinkOf}
-use Rattle.dna_links.specs.Queues.{booted_link}
-use Rattle.dna_links.specs.WireSegments.{WireSegments, wire_segments}
+use Rattle.accusing_links.proofs.Prelude.{◌≡◌, ℕ, Some, List, [], ◌∷◌, ◌++◌, map, zero, suc, sym, subst, slice_get, slice_set, Queues, LinkOf}
+use Rattle.accusing_links.proofs.Prelude.{booted_link, WireSegments, wire_segments}
 use Rattle.accusing_links.proofs.Each.{Each, each_at, each_pushed, each_more}
 use Rattle.accusing_links.proofs.FarLinks.{IsOther, NoneTo, OneTo, one_of_none}
 use Rattle.accusing_links.proofs.Received.{weaker}

@@ -1,26 +1,14 @@
 -- What is to be shown of a row, so that something holds of each answer to it that is no refusal: of every link that its asks may find, by what they
 -- tell of it, what holds of it once the effects are done.
-use Rattle.std.proofs.Common.{◌≡◌, ℕ, Bool, true, false, ◌&&◌, ◌⊎◌, inl, inr, eqb, Option, Some, None, Result, Ok, Err, List, [], ◌∷◌, fold}
-use Rattle.std.proofs.Common.{refl, sym, ap, subst}
-use Rattle.std.specs.Prelude.{ok_or, is_some}
-use Rattle.dna_packet.specs.declared.ack_word.AckWord.{AckWord}
-use Rattle.dna_packet.specs.Nsp.{SegmentValue, NspValue, ConnectInitiate}
-use Rattle.dna_station.specs.declared.link_refusal.LinkRefusal.{LinkRefusal}
-use Rattle.dna_station.specs.declared.link_refusal.LinkRefusal.TheVariants.{WrongNode}
-use Rattle.dna_links.specs.declared.port.LinkTest.{LinkTest}
-use Rattle.dna_links.specs.declared.queue.Queues.{Queues}
-use Rattle.dna_links.specs.declared.queue.Queues.TheVariants.{Without, With}
-use Rattle.dna_links.specs.SegmentBook.{Sending, Late}
-use Rattle.dna_links.specs.Links.{LinkOf, LinkTruth, Carried, with_seen, with_segments}
-use Rattle.dna_links.specs.Queues.{in_use, with_in_use, may_send, with_queue}
-use Rattle.dna_links.specs.Table.{Ask, Finds, FindsEither, FindsNone, FindsInUse, KnowsInUse, InPhase, InTurn, OrElse, ForThisLink, OfThisPair}
-use Rattle.dna_links.specs.Table.{Delivers, SendsSegment, SendsAcks, Effect, Say, Settle, Row, Asks, user_row, sending_row, arrival_row}
-use Rattle.dna_links.specs.User.{LinkEventValue, Boot}
-use Rattle.dna_links.specs.WireSegments.{WireSegments, wire_segments, delivers}
+use Rattle.accusing_links.proofs.Prelude.{◌≡◌, ℕ, Bool, true, false, ◌&&◌, ◌⊎◌, inl, inr, eqb, Option, Some, None, Result, Ok, Err, List, [], ◌∷◌}
+use Rattle.accusing_links.proofs.Prelude.{fold, refl, sym, ap, subst, ok_or, is_some, AckWord, SegmentValue, NspValue, ConnectInitiate, LinkRefusal}
+use Rattle.accusing_links.proofs.Prelude.{WrongNode, LinkTest, Queues, Without, With, Sending, Late, LinkOf, LinkTruth, Carried, with_seen}
+use Rattle.accusing_links.proofs.Prelude.{with_segments, in_use, with_in_use, may_send, with_queue, Ask, Finds, FindsEither, FindsNone, FindsInUse}
+use Rattle.accusing_links.proofs.Prelude.{KnowsInUse, InPhase, InTurn, OrElse, ForThisLink, OfThisPair, Delivers, SendsSegment, SendsAcks, Effect}
+use Rattle.accusing_links.proofs.Prelude.{Say, Settle, Row, Asks, user_row, sending_row, arrival_row, LinkEventValue, Boot, WireSegments}
+use Rattle.accusing_links.proofs.Prelude.{wire_segments, delivers, WireLinks, wire_links_sent, on_ok, are_same, blank, does, kept, otherwise, waits}
+use Rattle.accusing_links.proofs.Prelude.{sends_segment, sends_acks, asked, by_row, of_none, Sent, sent_as}
 use Rattle.dna_links.specs.WireSegments as wire
-use Rattle.dna_links.specs.WireLinks.{WireLinks, wire_links_sent}
-use Rattle.dna_links.specs.LinkBook.{on_ok, are_same, blank, does, kept, otherwise, waits, sends_segment, sends_acks, asked, by_row, of_none}
-use Rattle.dna_links.specs.Sending.{Sent, sent_as}
 use Rattle.accusing_links.proofs.Answered.{Good, good_ok, good_err, good_check, good_on, link_good, seen_good}
 use Rattle.accusing_links.proofs.Finds.{Found, IsInUse, found_used, waits_used}
 

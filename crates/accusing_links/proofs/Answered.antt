@@ -1,14 +1,7 @@
 -- What holds of each answer of the links that is no refusal, by what holds of each link that a row may be of.
-use Rattle.std.proofs.Common.{◌≡◌, ℕ, Bool, true, false, Option, Some, None, Result, Ok, Err, List, refl, subst}
-use Rattle.std.specs.Prelude.{slice_get, position}
-use Rattle.std.proofs.lemmas.List.Quantifiers.{position-Some}
-use Rattle.std.proofs.lemmas.Option.{get_or_from_slice_get}
-use Rattle.dna_station.specs.declared.link_refusal.LinkRefusal.{LinkRefusal}
-use Rattle.dna_links.specs.declared.port.Port.{Port}
-use Rattle.dna_links.specs.declared.port.LinkTest.{LinkTest}
-use Rattle.dna_links.specs.LookUps.{passes}
-use Rattle.dna_links.specs.Links.{LinkOf, LinksOf, check, on_link, at_number, with_link, with_seen}
-use Rattle.dna_links.specs.LinkBook.{on_ok}
+use Rattle.accusing_links.proofs.Prelude.{◌≡◌, ℕ, Bool, true, false, Option, Some, None, Result, Ok, Err, List, refl, subst, slice_get, position}
+use Rattle.accusing_links.proofs.Prelude.{position-Some, get_or_from_slice_get, LinkRefusal, Port, LinkTest, passes, LinkOf, LinksOf, check}
+use Rattle.accusing_links.proofs.Prelude.{on_link, at_number, with_link, with_seen, on_ok}
 
 -- ---- what holds of an answer that is no refusal
 

@@ -1,26 +1,9 @@
 -- No acknowledgement alone that goes back has a placing.
-use Rattle.std.proofs.Common.{◌≡◌, ℕ, Bool, true, leb, Option, Some, None, Result, Ok, Err, List, []}
-use Rattle.std.proofs.Common.{◌∷◌, ◌++◌, refl, sym, ◌∙◌}
-use Rattle.std.specs.List.{list_any}
-use Rattle.std.proofs.lemmas.Bool.{and_parts, leb-true}
-use Rattle.ddcmp_msg.specs.Message.{Data}
-use Rattle.ddcmp_msg.specs.declared.flags.Flags.{Flags}
-use Rattle.ddcmp_msg.specs.Reading.{ReadingValue, reading, Sound}
-use Rattle.capture_record.specs.declared.record.Record.{Record}
-use Rattle.dna_packet.specs.Nsp.{NspValue, DataAck}
-use Rattle.dna_station.specs.declared.head.Head.{Head}
-use Rattle.dna_station.specs.declared.refusal.StepRefusal.{StepRefusal}
-use Rattle.dna_links.specs.declared.queue.Queues.{Queues}
-use Rattle.dna_links.specs.Links.{Carried}
-use Rattle.dna_node.specs.Content.{content}
-use Rattle.accusing.specs.Placing.{Passed, Own}
-use Rattle.accusing_links.specs.Placing.{IsNodePlacing}
-use Rattle.accusing_links.specs.Segments.{shown_in}
-use Rattle.accusing_links.specs.Back.{calls_of, told, is_back, is_back_message}
-use Rattle.accusing_links.proofs.FollowSteps.{not_both}
-use Rattle.accusing_links.specs.Answers.{IsWrong}
-use Rattle.accusing_links.specs.Back.{is_back_in, is_back_unit}
-use Rattle.accusing_links.proofs.PlacedClaims.{claim_of}
+use Rattle.accusing_links.proofs.Prelude.{◌≡◌, ℕ, Bool, true, leb, Option, Some, None, Result, Ok, Err, List, [], ◌∷◌, ◌++◌, refl, sym, ◌∙◌}
+use Rattle.accusing_links.proofs.Prelude.{list_any, and_parts, leb-true, Data, Flags, ReadingValue, reading, Sound, Record, NspValue, DataAck, Head}
+use Rattle.accusing_links.proofs.Prelude.{StepRefusal, Queues, Carried, content, Passed, Own, IsNodePlacing, shown_in, calls_of, told, is_back}
+use Rattle.accusing_links.proofs.Prelude.{is_back_message, IsWrong, is_back_in, is_back_unit}
+use Rattle.accusing_links.proofs.{FollowSteps.not_both, PlacedClaims.claim_of}
 
 module _ (queues : Queues) (head : Head) (before later : List Passed) (unit : List ℕ) (records : List Record)
     (placing : IsNodePlacing queues head (before ++ Own unit ∷ later) records) where

@@ -1,31 +1,11 @@
 -- What is claimed of a unit that this side sends: no word of a message of words alone goes back.
-use Rattle.std.proofs.Common.{◌≡◌, ℕ, ◌≤◌, Bool, true, false, not, eqb, Option, Some, None, Result, Ok, List, []}
-use Rattle.std.proofs.Common.{◌∷◌, refl, sym, subst, ◌∙◌, ◌⊎◌, inl, inr}
-use Rattle.std.specs.List.{list_any}
-use Rattle.std.proofs.lemmas.Bool.{and_parts, and_from, eq-eqb}
-use Rattle.ddcmp_msg.specs.Message.{MessageValue, Data}
-use Rattle.dna_packet.specs.declared.ack_word.AckWord.{AckWord}
-use Rattle.dna_packet.specs.Nsp.{NspValue, DataAck}
-use Rattle.dna_packet.specs.Nsp.{IsInRange}
-use Rattle.dna_station.specs.declared.refusal.StepRefusal.{StepRefusal}
-use Rattle.dna_station.specs.Book.{body_of}
-use Rattle.dna_links.specs.declared.queue.Queues.{Queues}
-use Rattle.dna_links.specs.SegmentBook.{is_of_data}
-use Rattle.dna_links.specs.Links.{Carried}
-use Rattle.dna_links.specs.WireLinks.{WireLinks}
-use Rattle.dna_node.specs.Content.{content}
-use Rattle.dna_node.proofs.ReadInRange.{content_in_range}
-use Rattle.accusing.specs.Placing.{Passed}
-use Rattle.accusing_links.specs.Segments.{shown_in}
-use Rattle.accusing_links.specs.Back.{is_word, alone_in, sent_of, calls_of, told, is_back}
-use Rattle.accusing_links.proofs.Sends.{AreOnward}
-use Rattle.accusing_links.proofs.Numbered.{Bears}
-use Rattle.accusing_links.proofs.AllFollow.{AreKnown}
-use Rattle.accusing_links.proofs.FollowSteps.{not_both}
-use Rattle.accusing_links.proofs.FollowSends.{Says, SaysAlone}
-use Rattle.accusing_links.proofs.FollowSaid.{IsAtLeast}
+use Rattle.accusing_links.proofs.Prelude.{◌≡◌, ℕ, ◌≤◌, Bool, true, false, not, eqb, Option, Some, None, Result, Ok, List, [], ◌∷◌, refl, sym, subst}
+use Rattle.accusing_links.proofs.Prelude.{◌∙◌, ◌⊎◌, inl, inr, list_any, and_parts, and_from, eq-eqb, MessageValue, Data, AckWord, NspValue, DataAck}
+use Rattle.accusing_links.proofs.Prelude.{IsInRange, StepRefusal, body_of, Queues, is_of_data, Carried, WireLinks, content, content_in_range}
+use Rattle.accusing_links.proofs.Prelude.{Passed, shown_in, is_word, alone_in, sent_of, calls_of, told, is_back}
+use Rattle.accusing_links.proofs.{Sends.AreOnward, Numbered.Bears, AllFollow.AreKnown, FollowSteps.not_both, FollowSends.Says}
+use Rattle.accusing_links.proofs.{FollowSends.SaysAlone, FollowSaid.IsAtLeast, Follows.or_first, Follows.or_second}
 use Rattle.accusing_links.proofs.Onwards.{Q, said, Gone, none_back, or_cases, not_false}
-use Rattle.accusing_links.proofs.Follows.{or_first, or_second}
 
 module _ (queues : Queues) (own far : ℕ) where
   -- no word of a message alone goes back
@@ -120,7 +100,8 @@ module _ (queues : Queues) (own far : ℕ) where
         go e f (inr is) = none_back queues own far before num links acks small.0 is.0 (λ least known. is.1 least known e f)
     first_alone num m small tells = tt
 
-    pub first_claim : (m : MessageValue) (packet : Carried) → content (body_of m) ≡ Ok (Some packet) → (calls_of before far ≤ 1 → Tells packet.message) →
+    pub first_claim : (m : MessageValue) (packet : Carried) → content (body_of m) ≡ Ok (Some packet) →
+        (calls_of before far ≤ 1 → Tells packet.message) →
         Claim before m
     first_claim (Data flags resp num body) packet is tells = λ other at.
         let same : other ≡ packet = one_packet other packet (sym at ∙ is) in

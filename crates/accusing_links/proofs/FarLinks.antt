@@ -1,8 +1,5 @@
 -- How many links have a far address.
-use Rattle.std.proofs.Common.{◌≡◌, ℕ, zero, suc, Some, List, [], ◌∷◌, ◌++◌}
-use Rattle.std.specs.Prelude.{slice_set}
-use Rattle.dna_links.specs.Links.{LinkOf}
-use Rattle.dna_links.specs.WireSegments.{WireSegments}
+use Rattle.accusing_links.proofs.Prelude.{◌≡◌, ℕ, zero, suc, Some, List, [], ◌∷◌, ◌++◌, slice_set, LinkOf, WireSegments}
 use Rattle.accusing_links.proofs.Each.{Each}
 
 module _ (far : ℕ) where

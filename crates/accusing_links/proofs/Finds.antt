@@ -1,19 +1,8 @@
 -- Which links a row may be of, by the test that finds them.
-use Rattle.std.proofs.Common.{◌≡◌, ℕ, true, ◌⊎◌, inl, inr, Option, Some, None, refl, sym, subst, ◌∙◌}
-use Rattle.std.specs.Prelude.{slice_get}
-use Rattle.std.proofs.lemmas.Bool.{and_parts, eqb-true}
-use Rattle.dna_links.specs.declared.port.Phase.{Phase}
-use Rattle.dna_links.specs.declared.port.Phase.TheVariants.{Calling, Called, Confirming, Running, Disconnecting, Ended}
-use Rattle.dna_links.specs.declared.port.Port.{Port}
-use Rattle.dna_links.specs.declared.port.LinkTest.{LinkTest}
-use Rattle.dna_links.specs.declared.port.LinkTest.TheVariants.{TheLink, CallingAt, CalledBy, ActedOn}
-use Rattle.dna_links.specs.declared.queue.Queues.{Queues}
-use Rattle.dna_links.specs.declared.queue.Queues.TheVariants.{With}
-use Rattle.dna_links.specs.LookUps.{passes, is_live, is_in, is_at, is_connected, has_both}
-use Rattle.dna_links.specs.Links.{LinkOf}
-use Rattle.dna_links.specs.Queues.{in_use, port_of_waiting}
-use Rattle.dna_links.specs.WireSegments.{WireSegments}
-use Rattle.dna_links.specs.WireLinks.{WireLinks}
+use Rattle.accusing_links.proofs.Prelude.{◌≡◌, ℕ, true, ◌⊎◌, inl, inr, Option, Some, None, refl, sym, subst, ◌∙◌, slice_get, and_parts, eqb-true}
+use Rattle.accusing_links.proofs.Prelude.{Phase, Calling, Called, Confirming, Running, Disconnecting, Ended, Port, LinkTest, TheLink, CallingAt}
+use Rattle.accusing_links.proofs.Prelude.{CalledBy, ActedOn, Queues, With, passes, is_live, is_in, is_at, is_connected, has_both, LinkOf, in_use}
+use Rattle.accusing_links.proofs.Prelude.{port_of_waiting, WireSegments, WireLinks}
 use Rattle.accusing_links.proofs.Answered.{IsFound}
 
 -- a link is found by its port

@@ -1,19 +1,10 @@
 -- Every row that gives no address and no phase keeps it what is known of a link's last acknowledgement sent.
-use Rattle.std.proofs.Common.{◌≡◌, ℕ, true, Option, Some, None, refl, sym}
-use Rattle.std.specs.Prelude.{slice_get}
-use Rattle.dna_links.specs.declared.queue.Queues.{Queues}
-use Rattle.dna_links.specs.declared.queue.Queues.TheVariants.{Without, With}
-use Rattle.dna_links.specs.declared.queue.LinkQueue.{LinkQueue}
-use Rattle.dna_links.specs.Links.{LinkOf, LinkTruth, with_segments}
-use Rattle.dna_links.specs.Queues.{with_queue, settled, forgotten}
-use Rattle.dna_links.specs.WireSegments.{WireSegments, wire_segments}
-use Rattle.dna_links.specs.WireLinks.{WireLinks}
-use Rattle.dna_links.specs.LinkBook.{blank, does}
-use Rattle.accusing_links.proofs.Received.{Received, delivers_received}
-use Rattle.accusing_links.proofs.Sends.{sends_acks_good, sent_left}
-use Rattle.accusing_links.proofs.Along.{OfRow}
+use Rattle.accusing_links.proofs.Prelude.{◌≡◌, ℕ, true, Option, Some, None, refl, sym, slice_get, Queues, Without, With, LinkQueue, LinkOf}
+use Rattle.accusing_links.proofs.Prelude.{LinkTruth, with_segments, with_queue, settled, forgotten, WireSegments, wire_segments, WireLinks, blank}
+use Rattle.accusing_links.proofs.Prelude.{does}
+use Rattle.accusing_links.proofs.{Received.Received, Received.delivers_received, Sends.sends_acks_good, Sends.sent_left, Along.OfRow}
+use Rattle.accusing_links.proofs.{LinkRows.IsSmall}
 use Rattle.accusing_links.proofs.Rows.{IsKept, AreKept, settled_by}
-use Rattle.accusing_links.proofs.LinkRows.{IsSmall}
 use Rattle.accusing_links.proofs.Follows.{keeps, Follows, follows_itself, follows_on, settles_follows, says_follows, forgotten_follows, IsCalm}
 use Rattle.accusing_links.proofs.Follows.{does_follows}
 use Rattle.accusing_links.proofs.AllFollow.{AreFollowed, all_same, followed_changed, followed_pushed, all_booted}

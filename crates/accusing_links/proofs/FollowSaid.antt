@@ -1,36 +1,15 @@
 -- A word that is sent tells that the link's last acknowledgement sent is at least its number.
-use Rattle.std.proofs.Common.{◌≡◌, ℕ, Bool, true, false, not, Option, Some, List, [], ◌∷◌, refl, sym, subst, fold}
-use Rattle.std.proofs.lemmas.Bool.{and_parts}
-use Rattle.dna_packet.specs.declared.ack_word.AckWord.{AckWord}
-use Rattle.dna_packet.specs.Nsp.{NspValue, DataSegment, DataAck, IsInRange}
-use Rattle.dna_links.specs.declared.port.Phase.{Phase}
-use Rattle.dna_links.specs.declared.port.Phase.TheVariants.{Called, Running}
-use Rattle.dna_links.specs.declared.queue.Queues.{Queues}
-use Rattle.dna_links.specs.declared.queue.Queues.TheVariants.{Without, With}
-use Rattle.dna_links.specs.declared.queue.LinkQueue.{LinkQueue}
-use Rattle.dna_links.specs.declared.queue.Said.TheVariants.{OfRun}
-use Rattle.dna_links.specs.LookUps.{is_in}
-use Rattle.dna_links.specs.SegmentBook.{wire, is_of_data}
-use Rattle.dna_links.specs.Links.{LinkOf, Carried, changed, with_segments}
-use Rattle.dna_links.specs.Queues.{may_send, with_queue, is_over}
-use Rattle.dna_links.specs.Table.{Effect, Say, Keep, sending_row}
-use Rattle.dna_links.specs.WireSegments.{WireSegments, wire_segments}
+use Rattle.accusing_links.proofs.Prelude.{◌≡◌, ℕ, Bool, true, false, not, Option, Some, List, [], ◌∷◌, refl, sym, subst, fold, and_parts, AckWord}
+use Rattle.accusing_links.proofs.Prelude.{NspValue, DataSegment, DataAck, IsInRange, Phase, Called, Running, Queues, Without, With, LinkQueue}
+use Rattle.accusing_links.proofs.Prelude.{OfRun, is_in, wire, is_of_data, LinkOf, Carried, changed, with_segments, may_send, with_queue, is_over}
+use Rattle.accusing_links.proofs.Prelude.{Effect, Say, Keep, sending_row, WireSegments, wire_segments, WireLinks, wire_links_sent, kept, after}
+use Rattle.accusing_links.proofs.Prelude.{of_none, does, Sent}
 use Rattle.dna_links.specs.WireSegments as made_by
-use Rattle.dna_links.specs.WireLinks.{WireLinks, wire_links_sent}
-use Rattle.dna_links.specs.LinkBook.{kept, after, of_none, does}
-use Rattle.dna_links.specs.Sending.{Sent}
-use Rattle.accusing_links.proofs.Answered.{Good}
-use Rattle.accusing_links.proofs.Each.{each_at}
-use Rattle.accusing_links.proofs.Along.{SendShows, sent_good}
-use Rattle.accusing_links.proofs.Rows.{kept_each, always_sends}
-use Rattle.accusing_links.proofs.Received.{Received}
+use Rattle.accusing_links.proofs.{Answered.Good, Each.each_at, Along.SendShows, Along.sent_good, Rows.kept_each, Rows.always_sends}
+use Rattle.accusing_links.proofs.{Received.Received, Tied.Is, Tied.AreTied, Follows.IsCalm, Follows.all_follow, FarLinks.OneTo, AllFollow.AreKnown}
+use Rattle.accusing_links.proofs.{AllFollow.all_by_one, FollowSteps.not_both}
 use Rattle.accusing_links.proofs.Sends.{AreSaid, sends_acks_good, sent_left}
 use Rattle.accusing_links.proofs.RightLinks.{Numbers, IsLinkRight, AreRight}
-use Rattle.accusing_links.proofs.Tied.{Is, AreTied}
-use Rattle.accusing_links.proofs.Follows.{IsCalm, all_follow}
-use Rattle.accusing_links.proofs.FarLinks.{OneTo}
-use Rattle.accusing_links.proofs.AllFollow.{AreKnown, all_by_one}
-use Rattle.accusing_links.proofs.FollowSteps.{not_both}
 use Rattle.accusing_links.proofs.FollowSends.{Says, IsOf, is_of, here}
 
 running_begun : (phase : Phase) → is_in Running phase ≡ true → is_in Called phase ≡ false

@@ -1,37 +1,15 @@
 -- What is sent keeps it what is known of a link's last acknowledgement sent; and words alone then lie on from there.
-use Rattle.std.proofs.Common.{◌≡◌, ℕ, Bool, true, false, ◌&&◌, ◌||◌, ◌⊎◌, inl, inr, not, Option, Some, None, List, refl, ap}
-use Rattle.std.proofs.Common.{subst, ◌∙◌}
-use Rattle.std.specs.Prelude.{slice_get}
-use Rattle.std.proofs.lemmas.Bool.{and_parts}
-use Rattle.dna_packet.specs.declared.ack_word.AckWord.{AckWord}
-use Rattle.dna_packet.specs.Nsp.{NspValue, DataSegment, DataAck, DisconnectConfirm, IsInRange}
-use Rattle.dna_links.specs.declared.port.Phase.{Phase}
-use Rattle.dna_links.specs.declared.port.Phase.TheVariants.{Called, Running}
-use Rattle.dna_links.specs.declared.port.Port.{Port}
-use Rattle.dna_links.specs.declared.port.LinkTest.TheVariants.{TheLink, CalledBy}
-use Rattle.dna_links.specs.declared.queue.Queues.{Queues}
-use Rattle.dna_links.specs.declared.queue.Queues.TheVariants.{Without, With}
-use Rattle.dna_links.specs.declared.queue.Said.{Said}
-use Rattle.dna_links.specs.LookUps.{is_live, has_both}
-use Rattle.dna_links.specs.Links.{LinkOf, Carried}
-use Rattle.dna_links.specs.Queues.{in_use, port_of_waiting, may_send, is_over, has_waiting, drops}
-use Rattle.dna_links.specs.Table.{sending_row}
-use Rattle.dna_links.specs.WireSegments.{WireSegments, wire_segments}
-use Rattle.dna_links.specs.WireLinks.{WireLinks, wire_links_sent}
-use Rattle.dna_links.specs.LinkBook.{of_none}
-use Rattle.dna_links.specs.Sending.{Sent}
-use Rattle.accusing_links.proofs.Answered.{Good}
+use Rattle.accusing_links.proofs.Prelude.{◌≡◌, ℕ, Bool, true, false, ◌&&◌, ◌||◌, ◌⊎◌, inl, inr, not, Option, Some, None, List, refl, ap, subst, ◌∙◌}
+use Rattle.accusing_links.proofs.Prelude.{slice_get, and_parts, AckWord, NspValue, DataSegment, DataAck, DisconnectConfirm, IsInRange, Phase}
+use Rattle.accusing_links.proofs.Prelude.{Called, Running, Port, TheLink, CalledBy, Queues, Without, With, Said, is_live, has_both, LinkOf, Carried}
+use Rattle.accusing_links.proofs.Prelude.{in_use, port_of_waiting, may_send, is_over, has_waiting, drops, sending_row, WireSegments, wire_segments}
+use Rattle.accusing_links.proofs.Prelude.{WireLinks, wire_links_sent, of_none, Sent}
+use Rattle.accusing_links.proofs.{Answered.Good, Each.each_at, Received.Received, Sends.AreOnward, Sends.sends_acks_good, RightLinks.Numbers}
+use Rattle.accusing_links.proofs.{LinkRows.IsSmall, FarLinks.IsOther, FarLinks.NoneTo, AllFollow.AreKnown}
 use Rattle.accusing_links.proofs.Finds.{Found, IsInUse, in_live, the_link, called_by}
-use Rattle.accusing_links.proofs.Each.{each_at}
 use Rattle.accusing_links.proofs.Along.{SendShows, lasting_sends, sent_tells}
 use Rattle.accusing_links.proofs.Rows.{IsCalmRow, calm_sends, sent_kept, always_sends}
-use Rattle.accusing_links.proofs.Received.{Received}
-use Rattle.accusing_links.proofs.Sends.{AreOnward, sends_acks_good}
-use Rattle.accusing_links.proofs.RightLinks.{Numbers}
-use Rattle.accusing_links.proofs.LinkRows.{IsSmall}
 use Rattle.accusing_links.proofs.Follows.{IsCalm, drops_follows, live_keeps, keeps, IsKnown}
-use Rattle.accusing_links.proofs.FarLinks.{IsOther, NoneTo}
-use Rattle.accusing_links.proofs.AllFollow.{AreKnown}
 use Rattle.accusing_links.proofs.FollowRows.{Are, IsNow, blank_now, keep, all_keep}
 
 -- ---- ports

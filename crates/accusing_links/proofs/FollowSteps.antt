@@ -1,39 +1,21 @@
 -- What the user does and what comes keeps it what is known of a link's last acknowledgement sent; and what comes first from a far address joins one
 -- link to it.
-use Rattle.std.proofs.Common.{◌≡◌, ℕ, ◌<◌, Bool, true, false, ◌&&◌, ◌⊎◌, not, eqb, Option, Some, None, List, [], ◌∷◌, refl, sym}
-use Rattle.std.proofs.Common.{subst, ap, ◌∙◌, fold}
-use Rattle.std.specs.Prelude.{slice_get}
-use Rattle.dna_packet.specs.Nsp.{SegmentValue, NspValue, DataSegment, LinkService, DataAck, OtherDataAck, ConnectInitiate}
-use Rattle.dna_packet.specs.Nsp.{ConnectConfirm, DisconnectInitiate, DisconnectConfirm, IsInRange}
-use Rattle.dna_station.specs.declared.link_refusal.LinkRefusal.TheVariants.{WrongNode}
-use Rattle.dna_links.specs.declared.port.Phase.{Phase}
-use Rattle.dna_links.specs.declared.port.Phase.TheVariants.{Calling, Called, Confirming, Running, Disconnecting}
-use Rattle.dna_links.specs.declared.port.LinkTest.TheVariants.{TheLink, CallingAt, CalledBy, ActedOn}
-use Rattle.dna_links.specs.declared.queue.Queues.{Queues}
-use Rattle.dna_links.specs.declared.queue.Queues.TheVariants.{Without, With}
-use Rattle.dna_links.specs.declared.queue.Said.{Said}
-use Rattle.dna_links.specs.declared.tag.LinkTag.{LinkTag}
-use Rattle.dna_links.specs.LookUps.{is_live, is_in, is_calling, is_connected}
-use Rattle.dna_links.specs.Links.{LinkOf, LinkTruth, Carried, with_segments}
-use Rattle.dna_links.specs.Queues.{in_use, port_of_waiting, has_waiting, is_over, goes_on, goes_to, ends_by_message, drops}
-use Rattle.dna_links.specs.Table.{Row, Effect, GoTo, TakeSegment, TakeAcks, user_row, arrival_row}
-use Rattle.dna_links.specs.User.{LinkEventValue, Open, Accept, Reject, Close, Abort}
-use Rattle.dna_links.specs.WireSegments.{WireSegments, wire_segments, takes_segment}
-use Rattle.dna_links.specs.WireLinks.{WireLinks, wire_links_user, wire_links_arrived}
-use Rattle.dna_links.specs.LinkBook.{blank, does, after, of_none}
-use Rattle.dna_links.specs.Arriving.{PartnerRule}
-use Rattle.accusing_links.proofs.Answered.{Good, good_check}
+use Rattle.accusing_links.proofs.Prelude.{◌≡◌, ℕ, ◌<◌, Bool, true, false, ◌&&◌, ◌⊎◌, not, eqb, Option, Some, None, List, [], ◌∷◌, refl, sym, subst}
+use Rattle.accusing_links.proofs.Prelude.{ap, ◌∙◌, fold, slice_get, SegmentValue, NspValue, DataSegment, LinkService, DataAck, OtherDataAck}
+use Rattle.accusing_links.proofs.Prelude.{ConnectInitiate, ConnectConfirm, DisconnectInitiate, DisconnectConfirm, IsInRange, WrongNode, Phase}
+use Rattle.accusing_links.proofs.Prelude.{Calling, Called, Confirming, Running, Disconnecting, TheLink, CallingAt, CalledBy, ActedOn, Queues}
+use Rattle.accusing_links.proofs.Prelude.{Without, With, Said, LinkTag, is_live, is_in, is_calling, is_connected, LinkOf, LinkTruth, Carried}
+use Rattle.accusing_links.proofs.Prelude.{with_segments, in_use, port_of_waiting, has_waiting, is_over, goes_on, goes_to, ends_by_message, drops}
+use Rattle.accusing_links.proofs.Prelude.{Row, Effect, GoTo, TakeSegment, TakeAcks, user_row, arrival_row, LinkEventValue, Open, Accept, Reject}
+use Rattle.accusing_links.proofs.Prelude.{Close, Abort, WireSegments, wire_segments, takes_segment, WireLinks, wire_links_user, wire_links_arrived}
+use Rattle.accusing_links.proofs.Prelude.{blank, does, after, of_none, PartnerRule}
+use Rattle.accusing_links.proofs.{Answered.Good, Answered.good_check, Along.RowShows, Along.comes_by_row, Received.segment_received}
+use Rattle.accusing_links.proofs.{RightLinks.Numbers, LinkRows.IsSmall, LinkSteps.HasPassed, LinkSteps.in_run, Ports.goes_far}
 use Rattle.accusing_links.proofs.Finds.{Found, either_there, in_live, connected_live, acted_on, called_by, ends_live}
-use Rattle.accusing_links.proofs.Along.{RowShows, comes_by_row}
 use Rattle.accusing_links.proofs.Rows.{IsCalmRow, calm_shows, user_kept, arrived_kept}
-use Rattle.accusing_links.proofs.Received.{segment_received}
-use Rattle.accusing_links.proofs.RightLinks.{Numbers}
-use Rattle.accusing_links.proofs.LinkRows.{IsSmall}
-use Rattle.accusing_links.proofs.LinkSteps.{HasPassed, in_run}
 use Rattle.accusing_links.proofs.Follows.{keeps, live_keeps, Follows, follows_itself, follows_on, goes_follows, ends_follows, drops_follows}
 use Rattle.accusing_links.proofs.Follows.{or_second, requeued_follows, IsCalm, all_follow}
 use Rattle.accusing_links.proofs.FarLinks.{NoneTo, OneTo, one_pushed, one_changed, one_of_none}
-use Rattle.accusing_links.proofs.Ports.{goes_far}
 use Rattle.accusing_links.proofs.FollowRows.{Are, IsNow, blank_now, keep, all_keep}
 
 -- a call in use keeps what has numbers

@@ -1,23 +1,13 @@
 -- What becomes of a link of which it is known that its last acknowledgement sent is at least a number: it gets the far address that is asked of by no
 -- effect of a row, and what is known stays so as long as it may yet send what has numbers.
-use Rattle.std.proofs.Common.{◌≡◌, ℕ, Bool, true, false, ◌&&◌, ◌||◌, not, Option, Some, None, List, [], ◌∷◌, fold}
-use Rattle.std.proofs.Common.{refl, sym, subst, ap, ◌∙◌}
-use Rattle.dna_links.specs.declared.port.Phase.{Phase}
-use Rattle.dna_links.specs.declared.port.Phase.TheVariants.{Called, Disconnecting}
-use Rattle.dna_links.specs.declared.port.Port.{Port}
-use Rattle.dna_links.specs.declared.queue.Queues.{Queues}
-use Rattle.dna_links.specs.declared.queue.Queues.TheVariants.{Without, With}
-use Rattle.dna_links.specs.declared.queue.Said.{Said}
-use Rattle.dna_links.specs.declared.queue.Said.TheVariants.{Nothing, OfRun, Disconnect}
-use Rattle.dna_links.specs.LookUps.{is_live, is_in}
-use Rattle.dna_links.specs.Links.{LinkOf, LinkTruth}
-use Rattle.dna_links.specs.Queues.{keeps_numbers, has_waiting, is_over, further, goes_on, goes_to, ends_by_message, drops, requeued, lets_go}
-use Rattle.dna_links.specs.Queues.{booted_link, forgotten, call_of, drops_segments}
-use Rattle.dna_links.specs.Table.{Effect, OpenHere, GiveAddress, Connect, GoTo, End, Drop, EndAll, Say, Settle, Keep, HandIn, TakeSegment, TakeAcks}
-use Rattle.dna_links.specs.WireSegments.{WireSegments, wire_segments}
-use Rattle.dna_links.specs.LinkBook.{does}
-use Rattle.accusing_links.proofs.Received.{Received, acks_received}
-use Rattle.accusing_links.proofs.Each.{Each}
+use Rattle.accusing_links.proofs.Prelude.{◌≡◌, ℕ, Bool, true, false, ◌&&◌, ◌||◌, not, Option, Some, None, List, [], ◌∷◌, fold, refl, sym, subst, ap}
+use Rattle.accusing_links.proofs.Prelude.{◌∙◌, Phase, Called, Disconnecting, Port, Queues, Without, With, Said, Nothing, OfRun, Disconnect, is_live}
+use Rattle.accusing_links.proofs.Prelude.{is_in, LinkOf, LinkTruth, keeps_numbers, has_waiting, is_over, further, goes_on, goes_to, ends_by_message}
+use Rattle.accusing_links.proofs.Prelude.{drops, requeued, lets_go, booted_link, forgotten, drops_segments, Effect, OpenHere, GiveAddress, Connect}
+use Rattle.accusing_links.proofs.Prelude.{GoTo, End, Drop, EndAll, Say, Settle, Keep, HandIn, TakeSegment, TakeAcks, WireSegments, wire_segments}
+use Rattle.accusing_links.proofs.Prelude.{does}
+use Rattle.dna_links.specs.Queues.{call_of}
+use Rattle.accusing_links.proofs.{Received.Received, Received.acks_received, Each.Each}
 use Rattle.accusing_links.proofs.Ports.{dropped_port, forgotten_port, booted_port}
 
 -- a link may yet send what has numbers

@@ -1,26 +1,15 @@
 -- What a station sends in data units it was given first, and holds: so what holds of each packet that is given holds of all that it sends.
-use Rattle.std.proofs.Common.{◌≡◌, ℕ, Bool, true, false, cond, ◌&&◌, ltb, leb, Option, Some, None, Ok, List, [], ◌∷◌, ◌++◌, length}
-use Rattle.std.proofs.Common.{fold, refl, sym, subst, zero, suc, ◌-◌}
-use Rattle.std.specs.Prelude.{slice_get, slice_set, drop}
-use Rattle.std.proofs.lemmas.Slice.Eq.{bytes_eq-Decides}
-use Rattle.ddcmp_msg.specs.Message.{MessageValue, Data, Ack, Nak, Rep, Strt, Stack}
-use Rattle.ddcmp_msg.specs.declared.nak_reason.NakReason.{NakReason}
-use Rattle.ddcmp_msg.specs.declared.nak_reason.NakReason.TheVariants.{HeaderCheck, DataCheck}
-use Rattle.capture_record.specs.declared.fate.Fate.{Fate}
-use Rattle.capture_record.specs.Fates.{is_kept}
-use Rattle.capture_record.specs.declared.event.Event.{Event}
+use Rattle.accusing_links.proofs.Prelude.{◌≡◌, ℕ, Bool, true, false, cond, ◌&&◌, ltb, leb, Option, Some, None, Ok, List, [], ◌∷◌, ◌++◌, length}
+use Rattle.accusing_links.proofs.Prelude.{fold, refl, sym, subst, zero, suc, ◌-◌, slice_get, slice_set, drop, bytes_eq-Decides, MessageValue, Data}
+use Rattle.accusing_links.proofs.Prelude.{Ack, Nak, Rep, Strt, Stack, NakReason, HeaderCheck, DataCheck, Fate, is_kept, Event, StationRefusal, Halt}
+use Rattle.accusing_links.proofs.Prelude.{Tag, TakePartner, Respond, SetBack, TakePacket, AnswerRep, row, counts_damage, ArrivalValue, HeaderBad}
+use Rattle.accusing_links.proofs.Prelude.{DataBad, body_of, resp_of, num_of, damaged_by, unless_refused, HeldPacket, StationVariables, WireStation}
+use Rattle.accusing_links.proofs.Prelude.{wire_after_event, with_new, labelled, with_label, wire_book, wire_passes, wire_is_new, is_held_packet}
+use Rattle.accusing_links.proofs.Prelude.{wire_after_sending, acknowledges, wire_acknowledged_by, wire_is_next, with_next, wire_does, gives_new}
+use Rattle.accusing_links.proofs.Prelude.{wire_sending_refusal, checks_passed, machine}
 use Rattle.capture_record.specs.declared.event.Event.TheVariants as events
-use Rattle.dna_station.specs.declared.refusal.StationRefusal.{StationRefusal}
-use Rattle.dna_station.specs.declared.state.StationEvent.TheVariants.{Halt}
-use Rattle.dna_station.specs.declared.tag.Tag.{Tag}
-use Rattle.dna_station.specs.Table.{Effect, GoTo, TakePartner, Respond, SetBack, TakePacket, AnswerRep, row, counts_damage}
-use Rattle.dna_station.specs.Book.{ArrivalValue, Sound, HeaderBad, DataBad, body_of, resp_of, num_of, damaged_by}
-use Rattle.dna_station.specs.Machine.{unless_refused}
-use Rattle.dna_station.specs.WireStation.{HeldPacket, StationVariables, WireStation, wire_after_event, with_new, labelled, with_label}
-use Rattle.dna_station.specs.WireBook.{wire_book, wire_passes, wire_is_new, is_held_packet, wire_after_sending, acknowledges, wire_acknowledged_by}
-use Rattle.dna_station.specs.WireBook.{wire_is_next, with_next, wire_does, gives_new, wire_sending_refusal}
-use Rattle.dna_station.proofs.Steps.Checks.{checks_passed}
-use Rattle.accusing.specs.Placing.{machine}
+use Rattle.dna_station.specs.Table.{Effect, GoTo}
+use Rattle.dna_station.specs.Book.{Sound}
 
 pub not_refused : {X : Type 0} (o : Option StationRefusal) (x y : X) → unless_refused o x ≡ Ok y → (o ≡ None) × (x ≡ y)
 not_refused None x y e = (refl, cc)

@@ -1,14 +1,8 @@
 -- A set of segments has one more after it was put in, and is as it was once that is taken out.
-use Rattle.std.proofs.Common.{◌≡◌, ℕ, Bool, true, false, ◌||◌, not, cond, eqb, ltb, List, [], ◌∷◌, refl, sym, ap, ap₂, ◌∙◌, arith}
-use Rattle.std.proofs.Common.{ltb-true}
-use Rattle.std.proofs.lemmas.Bool.{eq-eqb}
-use Rattle.std.proofs.Common.{Ordering, Less, Equal, Greater, nat_cmp}
-use Rattle.std.proofs.lemmas.Map.Lookups.{exact_unsigned}
-use Rattle.std.specs.Ordering.{match_ordering, ordering_then, is_eq}
-use Rattle.std.specs.List.{list_any}
-use Rattle.std.specs.BTreeSet.{insert_key}
+use Rattle.accusing_links.proofs.Prelude.{◌≡◌, ℕ, Bool, true, false, ◌||◌, not, cond, eqb, ltb, List, [], ◌∷◌, refl, sym, ap, ap₂, ◌∙◌, arith}
+use Rattle.accusing_links.proofs.Prelude.{ltb-true, eq-eqb, Ordering, Less, Equal, Greater, nat_cmp, exact_unsigned, match_ordering, ordering_then}
+use Rattle.accusing_links.proofs.Prelude.{is_eq, list_any, insert_key, remove_key}
 use Rattle.std.specs.BTreeMap.{is_at}
-use Rattle.std.specs.Set.{remove_key}
 
 twice : (a b : Bool) → (a || b) ≡ (a || (a || b))
 twice true b = refl

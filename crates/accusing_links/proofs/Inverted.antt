@@ -1,31 +1,13 @@
 -- What a step of a node is, of its station and of its links.
-use Rattle.std.proofs.Common.{◌≡◌, Bool, true, false, cond, Option, Some, None, Result, Ok, Err, List, refl, ap, subst, ℕ}
-use Rattle.ddcmp_msg.specs.Message.{MessageValue}
-use Rattle.capture_record.specs.declared.fate.Fate.{Fate}
-use Rattle.capture_record.specs.Fates.{is_met}
-use Rattle.capture_record.specs.declared.event.Event.{Event}
+use Rattle.accusing_links.proofs.Prelude.{◌≡◌, Bool, true, false, cond, Option, Some, None, Result, Ok, Err, List, refl, ap, subst, ℕ, MessageValue}
+use Rattle.accusing_links.proofs.Prelude.{Fate, is_met, Event, Tag, StepRefusal, LinkRefusal, ArrivalValue, HeaderBad, DataBad, body_of}
+use Rattle.accusing_links.proofs.Prelude.{WireStation, wire_after_label, gives_new, Queues, LinkTag, Carried, LinkEventValue, Sent, WireSegments}
+use Rattle.accusing_links.proofs.Prelude.{WireLinks, wire_links_user, wire_links_sent, wire_links_arrived, of_anyone, Rules, by_bytes_with, content}
+use Rattle.accusing_links.proofs.Prelude.{link_event, WireLayers, LayersTag, with_wire_links, with_tag, with_wire_composed, to_wire_station}
+use Rattle.accusing_links.proofs.Prelude.{tag_or_none, wire_sends_first, wire_sends_again, wire_sends_on, wire_keeps_packet, wire_keeps}
+use Rattle.accusing_links.proofs.Prelude.{wire_meets_on, wire_user_on, wire_composes, of_no_link, machine, node_machine}
 use Rattle.capture_record.specs.declared.event.Event.TheVariants as events
-use Rattle.dna_station.specs.declared.tag.Tag.{Tag}
-use Rattle.dna_station.specs.declared.refusal.StepRefusal.{StepRefusal}
-use Rattle.dna_station.specs.declared.link_refusal.LinkRefusal.{LinkRefusal}
-use Rattle.dna_station.specs.Book.{ArrivalValue, Sound, HeaderBad, DataBad, body_of}
-use Rattle.dna_station.specs.WireStation.{WireStation, wire_after_label}
-use Rattle.dna_station.specs.WireBook.{gives_new}
-use Rattle.dna_links.specs.declared.queue.Queues.{Queues}
-use Rattle.dna_links.specs.declared.tag.LinkTag.{LinkTag}
-use Rattle.dna_links.specs.Links.{Carried}
-use Rattle.dna_links.specs.User.{LinkEventValue}
-use Rattle.dna_links.specs.Sending.{Sent}
-use Rattle.dna_links.specs.WireSegments.{WireSegments}
-use Rattle.dna_links.specs.WireLinks.{WireLinks, wire_links_user, wire_links_sent, wire_links_arrived}
-use Rattle.dna_links.specs.Arriving.{of_anyone}
-use Rattle.dna_node.specs.TagRules.{Rules, by_bytes_with}
-use Rattle.dna_node.specs.Content.{content, link_event}
-use Rattle.dna_node.specs.WireLayers.{WireLayers, LayersTag, with_wire_links, with_tag, with_wire_composed, to_wire_station}
-use Rattle.dna_node.specs.WireLayers.{tag_or_none, wire_sends_first, wire_sends_again, wire_sends_on, wire_keeps_packet, wire_keeps, wire_meets_on}
-use Rattle.dna_node.specs.WireLayers.{wire_user_on, wire_composes, of_no_link}
-use Rattle.accusing.specs.Placing.{machine}
-use Rattle.accusing_links.specs.Placing.{node_machine}
+use Rattle.dna_station.specs.Book.{Sound}
 
 first_of : {X Y Z : Type 0} (made : X × Y) (x : X) (y : Y) → ◌≡◌ {A = Result (X × Y) Z} (Ok made) (Ok (x, y)) → made.0 ≡ x
 first_of {X} {Y} made x y e = let same : made ≡ (x, y) = cc in ap (λ (p : X × Y). p.0) same

@@ -1,3 +1,5 @@
+-- the words that all other files share
+mod Prelude
 pub mod Packets
 -- what a station holds, and sends again
 pub mod Held
@@ -32,6 +34,7 @@ pub mod Inserted
 -- what passed stays so
 pub mod Passing
 -- so what no node sends has no placing
+pub mod RightNode
 pub mod Final
 -- a link's last acknowledgement sent goes on
 pub mod FarLinks

@@ -1,18 +1,7 @@
 -- Every row keeps it that what the links of a node received passed, where no segment comes and none gets an address.
-use Rattle.std.proofs.Common.{◌≡◌, ℕ, Some}
-use Rattle.std.specs.Prelude.{slice_get}
-use Rattle.std.specs.List.{AllByRecursion}
-use Rattle.dna_packet.specs.AckWord.{IsAckWord}
-use Rattle.dna_links.specs.declared.queue.Queues.{Queues}
-use Rattle.dna_links.specs.Links.{LinkOf, LinkTruth}
-use Rattle.dna_links.specs.Queues.{further, drops}
-use Rattle.dna_links.specs.Table.{Ask, SendsSegment, SendsAcks}
-use Rattle.dna_links.specs.WireSegments.{WireSegments, wire_segments}
-use Rattle.dna_links.specs.WireLinks.{WireLinks}
-use Rattle.accusing_links.proofs.Received.{delivers_received}
-use Rattle.accusing_links.proofs.Sends.{sends_acks_good, sent_left}
-use Rattle.accusing_links.proofs.Each.{each_at}
-use Rattle.accusing_links.proofs.Along.{OfRow}
+use Rattle.accusing_links.proofs.Prelude.{◌≡◌, ℕ, Some, slice_get, AllByRecursion, IsAckWord, Queues, LinkOf, LinkTruth, further, drops, Ask}
+use Rattle.accusing_links.proofs.Prelude.{SendsSegment, SendsAcks, WireSegments, wire_segments, WireLinks}
+use Rattle.accusing_links.proofs.{Received.delivers_received, Sends.sends_acks_good, Sends.sent_left, Each.each_at, Along.OfRow}
 use Rattle.accusing_links.proofs.Rows.{IsKept, AreKept, settled_by, each_keeps}
 use Rattle.accusing_links.proofs.RightLinks.{Numbers, Never, IsLinkRight, blank_right, IsCalm, does_right, AreRight, forgotten_right, requeued_right}
 

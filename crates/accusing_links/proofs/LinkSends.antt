@@ -1,22 +1,10 @@
 -- What is sent keeps it that what the links received passed for them, and what its words acknowledge passed.
-use Rattle.std.proofs.Common.{ℕ}
-use Rattle.dna_packet.specs.Nsp.{NspValue, DataSegment, DataAck, IsInRange}
-use Rattle.dna_links.specs.declared.port.LinkTest.TheVariants.{TheLink}
-use Rattle.dna_links.specs.declared.queue.Queues.{Queues}
-use Rattle.dna_links.specs.Links.{LinkOf, Carried}
-use Rattle.dna_links.specs.Table.{sending_row}
-use Rattle.dna_links.specs.WireSegments.{WireSegments, wire_segments}
-use Rattle.dna_links.specs.WireLinks.{WireLinks, wire_links_sent}
-use Rattle.dna_links.specs.LinkBook.{of_none}
-use Rattle.dna_links.specs.Sending.{Sent}
-use Rattle.accusing_links.proofs.Answered.{Good}
-use Rattle.accusing_links.proofs.Finds.{IsInUse, the_link}
-use Rattle.accusing_links.proofs.Along.{SendShows, sent_tells}
+use Rattle.accusing_links.proofs.Prelude.{ℕ, NspValue, DataSegment, DataAck, IsInRange, TheLink, Queues, LinkOf, Carried, sending_row, WireSegments}
+use Rattle.accusing_links.proofs.Prelude.{wire_segments, WireLinks, wire_links_sent, of_none, Sent}
+use Rattle.accusing_links.proofs.{Answered.Good, Finds.IsInUse, Finds.the_link, Along.SendShows, Along.sent_tells, Received.Received}
+use Rattle.accusing_links.proofs.{Sends.sends_acks_good, Sends.sent_left, LinkSteps.AcksFine}
 use Rattle.accusing_links.proofs.Rows.{IsCalmRow, calm_sends, sent_kept, always_sends}
-use Rattle.accusing_links.proofs.Received.{Received}
-use Rattle.accusing_links.proofs.Sends.{sends_acks_good, sent_left}
 use Rattle.accusing_links.proofs.RightLinks.{Numbers, IsCalm, AreRight}
-use Rattle.accusing_links.proofs.LinkSteps.{AcksFine}
 use Rattle.accusing_links.proofs.LinkRows.{IsSmall, Now, Are, there, keeps, all_keep}
 
 module _ (Q : Numbers) (queues : Queues) (s : WireLinks) (are : AreRight Q queues s.links) where

@@ -1,24 +1,12 @@
 -- What the user does and what comes keeps it that what the links of a node received passed for them.
-use Rattle.std.proofs.Common.{◌≡◌, ℕ, ◌<◌, Bool, true, false, Some, refl, subst, ◌∙◌}
-use Rattle.dna_packet.specs.Nsp.{SegmentValue, NspValue, DataSegment, DataAck, ConnectInitiate, ConnectConfirm, IsInRange}
-use Rattle.dna_links.specs.declared.port.Phase.{Phase}
-use Rattle.dna_links.specs.declared.port.Phase.TheVariants.{Calling, Called, Confirming, Running, Disconnecting}
-use Rattle.dna_links.specs.declared.port.LinkTest.TheVariants.{CalledBy, ActedOn}
-use Rattle.dna_links.specs.declared.queue.Queues.{Queues}
-use Rattle.dna_links.specs.declared.queue.Queues.TheVariants.{Without, With}
-use Rattle.dna_links.specs.declared.tag.LinkTag.{LinkTag}
-use Rattle.dna_links.specs.LookUps.{is_live, is_in, is_connected}
-use Rattle.dna_links.specs.Links.{LinkOf, LinkTruth, Carried, with_segments}
-use Rattle.dna_links.specs.Queues.{goes_on, goes_to}
-use Rattle.dna_links.specs.Table.{Row, user_row, arrival_row}
-use Rattle.dna_links.specs.User.{LinkEventValue, Open, Accept, Reject}
-use Rattle.dna_links.specs.WireSegments.{WireSegments, wire_segments, takes_segment}
-use Rattle.dna_links.specs.WireLinks.{WireLinks, wire_links_user, wire_links_arrived}
-use Rattle.dna_links.specs.LinkBook.{of_none}
-use Rattle.dna_links.specs.Arriving.{PartnerRule}
-use Rattle.accusing_links.proofs.Answered.{Good}
+use Rattle.accusing_links.proofs.Prelude.{◌≡◌, ℕ, ◌<◌, Bool, true, false, Some, refl, subst, ◌∙◌, SegmentValue, NspValue, DataSegment, DataAck}
+use Rattle.accusing_links.proofs.Prelude.{ConnectInitiate, ConnectConfirm, IsInRange, Phase, Calling, Called, Confirming, Running, Disconnecting}
+use Rattle.accusing_links.proofs.Prelude.{CalledBy, ActedOn, Queues, Without, With, LinkTag, is_live, is_in, is_connected, LinkOf, LinkTruth}
+use Rattle.accusing_links.proofs.Prelude.{Carried, with_segments, goes_on, goes_to, Row, user_row, arrival_row, LinkEventValue, Open, Accept}
+use Rattle.accusing_links.proofs.Prelude.{Reject, WireSegments, wire_segments, takes_segment, WireLinks, wire_links_user, wire_links_arrived}
+use Rattle.accusing_links.proofs.Prelude.{of_none, PartnerRule}
+use Rattle.accusing_links.proofs.{Answered.Good, Along.RowShows}
 use Rattle.accusing_links.proofs.Finds.{Found, connected_live, acted_on, called_by, calling_at}
-use Rattle.accusing_links.proofs.Along.{RowShows}
 use Rattle.accusing_links.proofs.Rows.{IsCalmRow, calm_shows, user_kept, arrived_kept}
 use Rattle.accusing_links.proofs.Received.{AreFine, empty_received, segment_received}
 use Rattle.accusing_links.proofs.RightLinks.{Numbers, Never, is_early, IsLinkRight, blank_right, none_received, goes_to_received, goes_right, IsCalm}

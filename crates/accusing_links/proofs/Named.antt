@@ -1,10 +1,8 @@
 -- The user names links from 1 on, so no link has the address 0.
-use Rattle.std.proofs.Common.{◌≡◌, ℕ, ◌≤◌, Bool, true, false, not, eqb, Option, Some, None, refl, arith, eqb-true}
-use Rattle.capture_record.specs.Range.{EventNumbersFit}
-use Rattle.capture_record.specs.declared.event.Event.{Event}
+use Rattle.accusing_links.proofs.Prelude.{◌≡◌, ℕ, ◌≤◌, Bool, true, false, not, eqb, Option, Some, None, refl, arith, EventNumbersFit, Event}
+use Rattle.accusing_links.proofs.Prelude.{LinkEventValue, Open, Accept, Reject, link_event}
+use Rattle.std.proofs.Common.{eqb-true}
 use Rattle.capture_record.specs.declared.event.Event.TheVariants as events
-use Rattle.dna_links.specs.User.{LinkEventValue, Open, Accept, Reject}
-use Rattle.dna_node.specs.Content.{link_event}
 
 abbrev pub IsAddress : ℕ → Type 0
 IsAddress own = not (eqb own 0) ≡ true

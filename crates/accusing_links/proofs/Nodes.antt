@@ -1,34 +1,14 @@
 -- A node keeps what its links keep, and what holds of each packet that they let it send first holds of all that it sends.
-use Rattle.std.proofs.Common.{◌≡◌, ℕ, Bool, true, false, cond, Option, Some, None, Result, Ok, Err, List, refl, sym, ap, subst}
-use Rattle.ddcmp_msg.specs.Message.{MessageValue}
-use Rattle.capture_record.specs.declared.fate.Fate.{Fate}
-use Rattle.capture_record.specs.Fates.{is_met}
-use Rattle.capture_record.specs.Range.{EventNumbersFit}
-use Rattle.capture_record.specs.declared.event.Event.{Event}
+use Rattle.accusing_links.proofs.Prelude.{◌≡◌, ℕ, Bool, true, false, cond, Option, Some, None, Result, Ok, Err, List, refl, sym, ap, subst}
+use Rattle.accusing_links.proofs.Prelude.{MessageValue, Fate, is_met, EventNumbersFit, Event, Tag, StepRefusal, LinkRefusal, ArrivalValue}
+use Rattle.accusing_links.proofs.Prelude.{HeaderBad, DataBad, body_of, WireStation, gives_new, Queues, LinkTag, Carried, LinkEventValue, Sent}
+use Rattle.accusing_links.proofs.Prelude.{WireSegments, WireLinks, wire_links_user, wire_links_sent, wire_links_arrived, of_anyone, Rules}
+use Rattle.accusing_links.proofs.Prelude.{by_bytes_with, content, link_event, WireLayers, LayersTag, with_wire_links, with_tag, with_wire_composed}
+use Rattle.accusing_links.proofs.Prelude.{to_wire_station, tag_or_none, wire_sends_first, wire_sends_again, wire_sends_on, wire_keeps_packet}
+use Rattle.accusing_links.proofs.Prelude.{wire_keeps, wire_meets_on, wire_user_on, wire_composes, IsInRange, content_in_range, machine}
+use Rattle.accusing_links.proofs.Prelude.{node_machine}
 use Rattle.capture_record.specs.declared.event.Event.TheVariants as events
-use Rattle.dna_station.specs.declared.tag.Tag.{Tag}
-use Rattle.dna_station.specs.declared.refusal.StepRefusal.{StepRefusal}
-use Rattle.dna_station.specs.declared.link_refusal.LinkRefusal.{LinkRefusal}
-use Rattle.dna_station.specs.Book.{ArrivalValue, Sound, HeaderBad, DataBad, body_of}
-use Rattle.dna_station.specs.WireStation.{WireStation}
-use Rattle.dna_station.specs.WireBook.{gives_new}
-use Rattle.dna_links.specs.declared.queue.Queues.{Queues}
-use Rattle.dna_links.specs.declared.tag.LinkTag.{LinkTag}
-use Rattle.dna_links.specs.Links.{Carried}
-use Rattle.dna_links.specs.User.{LinkEventValue}
-use Rattle.dna_links.specs.Sending.{Sent}
-use Rattle.dna_links.specs.WireSegments.{WireSegments}
-use Rattle.dna_links.specs.WireLinks.{WireLinks, wire_links_user, wire_links_sent, wire_links_arrived}
-use Rattle.dna_links.specs.Arriving.{of_anyone}
-use Rattle.dna_node.specs.TagRules.{Rules, by_bytes_with}
-use Rattle.dna_node.specs.Content.{content, link_event}
-use Rattle.dna_node.specs.WireLayers.{WireLayers, LayersTag, with_wire_links, with_tag, with_wire_composed, to_wire_station, tag_or_none}
-use Rattle.dna_node.specs.WireLayers.{wire_sends_first, wire_sends_again, wire_sends_on, wire_keeps_packet, wire_keeps, wire_meets_on}
-use Rattle.dna_node.specs.WireLayers.{wire_user_on, wire_composes}
-use Rattle.dna_packet.specs.Nsp.{IsInRange}
-use Rattle.dna_node.proofs.ReadInRange.{content_in_range}
-use Rattle.accusing.specs.Placing.{machine}
-use Rattle.accusing_links.specs.Placing.{node_machine}
+use Rattle.dna_station.specs.Book.{Sound}
 use Rattle.accusing_links.proofs.Answered.{Good}
 use Rattle.accusing_links.proofs.Named.{NamesOwn, NamesIn, names_in}
 use Rattle.accusing_links.proofs.Held.{AreHeld, Carries, label_held, arrives_held, user_held, sends_held}

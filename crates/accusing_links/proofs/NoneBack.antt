@@ -1,35 +1,20 @@
 -- A side for which records exist sends no acknowledgement alone that goes back.
-use Rattle.std.proofs.Common.{◌≡◌, ℕ, ◌≤◌, Bool, true, ◌||◌, Ok, List, []}
-use Rattle.std.proofs.Common.{◌∷◌, ◌++◌, refl, sym, subst, ap, ◌∙◌, ◌⊎◌, inl, inr, arith}
-use Rattle.ddcmp_msg.specs.Message.{MessageValue}
-use Rattle.ddcmp_msg.specs.Reading.{ReadingValue, reading, Sound}
-use Rattle.dna_packet.specs.Nsp.{IsInRange}
-use Rattle.dna_station.specs.declared.head.Head.{Head}
-use Rattle.dna_station.specs.declared.tag.Tag.{Tag}
-use Rattle.dna_station.specs.Book.{body_of}
-use Rattle.dna_station.specs.WireStation.{WireStation}
-use Rattle.dna_links.specs.declared.queue.Queues.{Queues}
-use Rattle.dna_links.specs.declared.tag.LinkTag.{LinkTag}
-use Rattle.dna_links.specs.WireLinks.{WireLinks}
-use Rattle.dna_node.specs.WireLayers.{WireLayers}
-use Rattle.dna_node.proofs.ReadInRange.{content_in_range}
-use Rattle.accusing.specs.Placing.{Passed, Own, Other, machine}
-use Rattle.accusing_links.specs.Segments.{segment_of}
-use Rattle.accusing_links.specs.Back.{said_in, sent_in, calls_of}
-use Rattle.accusing_links.proofs.Passing.{passed_more}
+use Rattle.accusing_links.proofs.Prelude.{◌≡◌, ℕ, ◌≤◌, Bool, true, ◌||◌, Ok, List, [], ◌∷◌, ◌++◌, refl, sym, subst, ap, ◌∙◌, ◌⊎◌, inl, inr, arith}
+use Rattle.accusing_links.proofs.Prelude.{MessageValue, ReadingValue, reading, Sound, IsInRange, Head, Tag, body_of, WireStation, Queues, LinkTag}
+use Rattle.accusing_links.proofs.Prelude.{WireLinks, WireLayers, content_in_range, Passed, Own, Other, machine, segment_of, said_in, sent_in}
+use Rattle.accusing_links.proofs.Prelude.{calls_of}
+use Rattle.accusing_links.proofs.{Passing.passed_more, FarLinks.NoneTo, FarLinks.OneTo, Follows.or_second}
 use Rattle.accusing_links.proofs.Numbered.{Bears, IsNumbered, label_numbered, sends_numbered, sends_again}
 use Rattle.accusing_links.proofs.Numbered.{numbered_more}
 use Rattle.accusing_links.proofs.Inverted.{IsSent, Again, NoMessage, First}
-use Rattle.accusing_links.proofs.Final.{N, P, Right, right_later, AllCame}
-use Rattle.accusing_links.proofs.Final.{all_later, one_came, all_pushed}
-use Rattle.accusing_links.proofs.FarLinks.{NoneTo, OneTo}
+use Rattle.accusing_links.proofs.RightNode.{N, P, Right}
+use Rattle.accusing_links.proofs.Final.{right_later, AllCame, all_later, one_came, all_pushed}
 use Rattle.accusing_links.proofs.AllFollow.{known_more, one_followed, none_followed}
 use Rattle.accusing_links.proofs.FollowSends.{Says, sent_follows, sent_none, sent_onward}
 use Rattle.accusing_links.proofs.FollowSaid.{IsAtLeast, AreAtLeast, sent_said}
 use Rattle.accusing_links.proofs.Phases.{sent_own, sent_other, calls_own, calls_other, calls_in, calls_pushed, words_of, one_of_words}
 use Rattle.accusing_links.proofs.Phases.{IsPhase, Follow, said_follows}
 use Rattle.accusing_links.proofs.Onwards.{Q, said, Gone, or_cases}
-use Rattle.accusing_links.proofs.Follows.{or_second}
 use Rattle.accusing_links.proofs.Claims.{Claim, again_claim, nothing_claim, Tells, first_claim}
 use Rattle.accusing_links.proofs.Shown.{shown_none, shown_gone, shown_message, gone_now}
 
@@ -149,7 +134,8 @@ module _ (queues : Queues) (head : Head) (own far : ℕ) where
         IsPhase queues own far (Q own far before) (calls_of before far) (calls_in coming far) (said own far before) x.links) (sym same)
         (is.phase few)))
 
-    pub sent_state : (made : WireLayers) → IsSent queues s m made → Right queues head before made → Claim queues own far before m × State after made coming
+    pub sent_state : (made : WireLayers) → IsSent queues s m made → Right queues head before made →
+        Claim queues own far before m × State after made coming
     sent_state made (Again st sent old) right =
         let gone = sends_again (Gone before) s.station st.0 m st.1 sent old is.numbered in (
           again_claim queues own far before m gone,

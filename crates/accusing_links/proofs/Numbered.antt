@@ -1,26 +1,16 @@
 -- What a station sends again in a data unit it sent before, with the same number: by what holds of the number and the packet of each data unit sent.
-use Rattle.std.proofs.Common.{◌≡◌, ℕ, ◌+◌, ◌-◌, ◌<◌, Bool, true, false, cond, ◌&&◌, ltb, leb, Option, Some, None, Ok, List, [], ◌∷◌, ◌++◌, length}
-use Rattle.std.proofs.Common.{fold, refl, sym, subst, zero, suc, arith}
-use Rattle.std.specs.Prelude.{slice_get, slice_set, drop}
-use Rattle.std.proofs.lemmas.Bool.{eqb-true}
-use Rattle.std.proofs.lemmas.Slice.Eq.{bytes_eq-Decides}
-use Rattle.ddcmp_msg.specs.Message.{MessageValue, Data, Ack, Nak, Rep, Strt, Stack}
-use Rattle.ddcmp_msg.specs.declared.nak_reason.NakReason.{NakReason}
-use Rattle.ddcmp_msg.specs.declared.nak_reason.NakReason.TheVariants.{HeaderCheck, DataCheck}
-use Rattle.capture_record.specs.declared.fate.Fate.{Fate}
-use Rattle.capture_record.specs.Fates.{is_kept}
-use Rattle.capture_record.specs.declared.event.Event.{Event}
+use Rattle.accusing_links.proofs.Prelude.{◌≡◌, ℕ, ◌+◌, ◌-◌, ◌<◌, Bool, true, false, cond, ◌&&◌, ltb, leb, Option, Some, None, Ok, List, [], ◌∷◌}
+use Rattle.accusing_links.proofs.Prelude.{◌++◌, length, fold, refl, sym, subst, zero, suc, arith, slice_get, slice_set, drop, eqb-true}
+use Rattle.accusing_links.proofs.Prelude.{bytes_eq-Decides, MessageValue, Data, Ack, Nak, Rep, Strt, Stack, NakReason, HeaderCheck, DataCheck, Fate}
+use Rattle.accusing_links.proofs.Prelude.{is_kept, Event, Halt, Tag, TakePartner, Respond, SetBack, TakePacket, AnswerRep, row, counts_damage}
+use Rattle.accusing_links.proofs.Prelude.{ArrivalValue, HeaderBad, DataBad, resp_of, num_of, damaged_by, HeldPacket, WireStation, wire_after_event}
+use Rattle.accusing_links.proofs.Prelude.{wire_after_label, with_new, labelled, wire_book, wire_passes, wire_is_new, is_held_packet}
+use Rattle.accusing_links.proofs.Prelude.{wire_after_sending, acknowledges, wire_acknowledged_by, wire_is_next, with_next, wire_does, gives_new}
+use Rattle.accusing_links.proofs.Prelude.{wire_sending_refusal, checks_passed, machine}
 use Rattle.capture_record.specs.declared.event.Event.TheVariants as events
-use Rattle.dna_station.specs.declared.state.StationEvent.TheVariants.{Halt}
-use Rattle.dna_station.specs.declared.tag.Tag.{Tag}
-use Rattle.dna_station.specs.Table.{Effect, GoTo, TakePartner, Respond, SetBack, TakePacket, AnswerRep, row, counts_damage}
+use Rattle.dna_station.specs.Table.{Effect, GoTo}
 use Rattle.dna_station.specs.Station.{wire}
-use Rattle.dna_station.specs.Book.{ArrivalValue, Sound, HeaderBad, DataBad, resp_of, num_of, damaged_by}
-use Rattle.dna_station.specs.WireStation.{HeldPacket, WireStation, wire_after_event, wire_after_label, with_new, labelled}
-use Rattle.dna_station.specs.WireBook.{wire_book, wire_passes, wire_is_new, is_held_packet, wire_after_sending, acknowledges, wire_acknowledged_by}
-use Rattle.dna_station.specs.WireBook.{wire_is_next, with_next, wire_does, gives_new, wire_sending_refusal}
-use Rattle.dna_station.proofs.Steps.Checks.{checks_passed}
-use Rattle.accusing.specs.Placing.{machine}
+use Rattle.dna_station.specs.Book.{Sound}
 use Rattle.accusing_links.proofs.Held.{not_refused}
 
 -- it holds of the number and the packet in a data message

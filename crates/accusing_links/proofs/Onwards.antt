@@ -1,23 +1,10 @@
 -- A side for which records exist sends no acknowledgement alone that goes back.
-use Rattle.std.proofs.Common.{◌≡◌, ℕ, zero, suc, ◌+◌, ◌<◌, ◌≤◌, Bool, true, false, ◌||◌, not, List, []}
-use Rattle.std.proofs.Common.{◌∷◌, refl, ◌⊎◌, inl, inr, arith}
-use Rattle.std.specs.List.{list_any, AllByRecursion}
-use Rattle.std.proofs.lemmas.Bool.{and_parts}
-use Rattle.dna_packet.specs.declared.ack_word.AckWord.{AckWord}
-use Rattle.dna_packet.specs.AckWord.{IsAckWord}
-use Rattle.dna_packet.specs.Nsp.{NspValue}
-use Rattle.dna_links.specs.declared.queue.Queues.{Queues}
-use Rattle.dna_links.specs.SegmentBook.{REACH, wire, distance, is_of_data}
-use Rattle.dna_links.specs.WireLinks.{WireLinks}
-use Rattle.dna_node.specs.Content.{content}
-use Rattle.accusing.specs.Placing.{Passed}
-use Rattle.accusing_links.specs.Segments.{Shown, shown_in, passed_of, segment_of}
-use Rattle.accusing_links.specs.Back.{said_in, alone_in, sent_of, told, was_said, is_back}
-use Rattle.accusing_links.proofs.Passing.{AsNumbers}
-use Rattle.accusing_links.proofs.Sends.{IsOnward, AreOnward}
-use Rattle.accusing_links.proofs.AllFollow.{AreKnown}
-use Rattle.accusing_links.proofs.FollowSteps.{not_both}
-use Rattle.accusing_links.proofs.FollowSaid.{IsAtLeast}
+use Rattle.accusing_links.proofs.Prelude.{◌≡◌, ℕ, zero, suc, ◌+◌, ◌<◌, ◌≤◌, Bool, true, false, ◌||◌, not, List, [], ◌∷◌, refl, ◌⊎◌, inl, inr, arith}
+use Rattle.accusing_links.proofs.Prelude.{list_any, AllByRecursion, and_parts, AckWord, IsAckWord, NspValue, Queues, REACH, wire, distance}
+use Rattle.accusing_links.proofs.Prelude.{is_of_data, WireLinks, content, Passed, Shown, shown_in, passed_of, segment_of, said_in, alone_in}
+use Rattle.accusing_links.proofs.Prelude.{sent_of, told, was_said, is_back}
+use Rattle.accusing_links.proofs.{Passing.AsNumbers, Sends.IsOnward, Sends.AreOnward, AllFollow.AreKnown, FollowSteps.not_both}
+use Rattle.accusing_links.proofs.{FollowSaid.IsAtLeast}
 
 pub or_cases : (a b : Bool) → (a || b) ≡ true → (a ≡ true) ⊎ (b ≡ true)
 or_cases true b e = inl refl

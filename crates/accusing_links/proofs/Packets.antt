@@ -1,11 +1,8 @@
 -- What a packet carries, by what is read of it.
-use Rattle.std.proofs.Common.{◌≡◌, ℕ, ◌/◌, ◌%◌, Bool, true, false, cond, None, List, Ok, refl, sym, ap, ◌∙◌, eq-eqb, eqb-true}
-use Rattle.std.specs.Prelude.{bit_and}
-use Rattle.std.specs.Int.{IsBitSet}
-use Rattle.std.proofs.lemmas.Nat.{and_mask, bit_set_by_shift}
-use Rattle.dna_packet.specs.Packet.{PacketValue, Data, Control, IsReturned}
-use Rattle.dna_packet.specs.ReadingNsp.{nsp_at}
-use Rattle.dna_node.specs.Content.{content_of, is_returned, message_in}
+use Rattle.accusing_links.proofs.Prelude.{◌≡◌, ℕ, ◌/◌, ◌%◌, Bool, true, false, cond, None, List, Ok, refl, sym, ap, ◌∙◌, bit_and, IsBitSet}
+use Rattle.accusing_links.proofs.Prelude.{and_mask, bit_set_by_shift, PacketValue, Control, IsReturned, nsp_at, content_of, is_returned, message_in}
+use Rattle.std.proofs.Common.{eq-eqb, eqb-true}
+use Rattle.dna_packet.specs.Packet.{Data}
 
 pub never : false ≡ true → ⊥
 never e = absurd (cc)

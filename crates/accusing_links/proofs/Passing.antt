@@ -1,31 +1,14 @@
 -- What passed stays so; and tests of what passed that answer alike.
-use Rattle.std.proofs.Common.{◌≡◌, ℕ, Bool, true, false, ◌&&◌, ◌||◌, not, cond, eqb, Option, Some, None, Result, Ok, Err, List, [], ◌∷◌, ◌++◌}
-use Rattle.std.proofs.Common.{refl, sym}
-use Rattle.std.proofs.Common.{ap, ap₂, ◌∙◌, ◌⊎◌, inl, inr, OnOk, OnErr}
-use Rattle.std.specs.List.{list_all}
-use Rattle.std.proofs.lemmas.Bool.{eq-eqb, and_from}
-use Rattle.ddcmp_msg.specs.Reading.{reading}
-use Rattle.dna_packet.specs.declared.ack_word.AckWord.{AckWord}
-use Rattle.dna_packet.specs.Nsp.{NspValue, DataSegment, DataAck, LinkService, OtherDataAck, ConnectAck, NoOperation, ConnectInitiate, ConnectConfirm}
-use Rattle.dna_packet.specs.Nsp.{DisconnectInitiate, DisconnectConfirm}
-use Rattle.dna_station.specs.declared.head.Head.{Head}
-use Rattle.dna_station.specs.declared.refusal.StepRefusal.{StepRefusal}
+use Rattle.accusing_links.proofs.Prelude.{◌≡◌, ℕ, Bool, true, false, ◌&&◌, ◌||◌, not, cond, eqb, Option, Some, None, Result, Ok, Err, List, [], ◌∷◌}
+use Rattle.accusing_links.proofs.Prelude.{◌++◌, refl, sym, ap, ap₂, ◌∙◌, ◌⊎◌, inl, inr, OnOk, OnErr, list_all, eq-eqb, and_from, reading, AckWord}
+use Rattle.accusing_links.proofs.Prelude.{NspValue, DataSegment, DataAck, LinkService, OtherDataAck, ConnectAck, NoOperation, ConnectInitiate}
+use Rattle.accusing_links.proofs.Prelude.{ConnectConfirm, DisconnectInitiate, DisconnectConfirm, Head, StepRefusal, Carried, is_of_data, content}
+use Rattle.accusing_links.proofs.Prelude.{Passed, Own, Other, Wrong, NoLink, WrongAck, Sight, IsAfter, Shown, has, packet_in, shown_by, passed_of}
+use Rattle.accusing_links.proofs.Prelude.{segment_of, CI, CC, RUN, connect_of, is_address, was_joined, can_run, has_link, Heard, goes_out}
+use Rattle.accusing_links.proofs.Prelude.{is_right_word, are_right_words, wrong_of_link, wrong_content, wrong_in, wrong_unit}
 use Rattle.dna_station.specs.declared.refusal.StepRefusal.TheVariants as reason
-use Rattle.dna_links.specs.Links.{Carried}
-use Rattle.dna_links.specs.SegmentBook.{is_of_data}
-use Rattle.dna_node.specs.Content.{content}
-use Rattle.accusing.specs.Placing.{Passed, Own, Other}
-use Rattle.accusing_links.specs.declared.wrong.Wrong.{Wrong}
-use Rattle.accusing_links.specs.declared.wrong.Wrong.TheVariants.{WrongNode, NoLink, WrongAck}
-use Rattle.accusing_links.specs.Answers.{Sight, IsAfter}
-use Rattle.accusing_links.specs.Segments.{Shown, has, packet_in, shown_by, passed_of, segment_of}
-use Rattle.accusing_links.specs.Connects.{CI, CC, RUN, connect_of, is_address, was_joined, can_run, has_link}
-use Rattle.accusing_links.specs.Heard.{Heard}
-use Rattle.accusing_links.specs.Wrong.{goes_out, is_right_word, are_right_words, wrong_of_link, wrong_content, wrong_in, wrong_unit}
-use Rattle.accusing_links.proofs.RightLinks.{Numbers}
-use Rattle.accusing_links.proofs.Received.{AreFine}
-use Rattle.accusing_links.proofs.LinkSteps.{AcksFine}
-use Rattle.accusing_links.proofs.TiedSends.{LinkFine}
+use Rattle.accusing_links.specs.declared.wrong.Wrong.TheVariants.{WrongNode}
+use Rattle.accusing_links.proofs.{RightLinks.Numbers, Received.AreFine, LinkSteps.AcksFine, TiedSends.LinkFine}
 
 -- ---- what passed
 

@@ -1,25 +1,12 @@
 -- What is known of the links of a node by the words that it sent and the CIs and CCs that passed, and how that stays so.
-use Rattle.std.proofs.Common.{◌≡◌, ℕ, ◌+◌, ◌≤◌, Bool, true, false, ◌&&◌, ◌||◌, ◌⊎◌, inl, inr, eqb, List, [], ◌∷◌, ◌++◌, refl, ap, arith}
-use Rattle.std.proofs.Common.{subst, ◌∙◌}
-use Rattle.std.specs.List.{list_any}
-use Rattle.std.proofs.lemmas.Bool.{and_parts, eqb-true, eq-eqb}
-use Rattle.ddcmp_msg.specs.Reading.{reading}
-use Rattle.dna_packet.specs.declared.ack_word.AckWord.{AckWord}
-use Rattle.dna_packet.specs.Nsp.{NspValue, DataSegment, LinkService, DataAck, OtherDataAck, ConnectAck, NoOperation, ConnectInitiate, ConnectConfirm}
-use Rattle.dna_packet.specs.Nsp.{DisconnectInitiate, DisconnectConfirm}
-use Rattle.dna_links.specs.declared.queue.Queues.{Queues}
-use Rattle.dna_links.specs.Links.{LinkOf}
-use Rattle.dna_links.specs.SegmentBook.{is_of_data}
-use Rattle.dna_links.specs.WireSegments.{WireSegments}
-use Rattle.accusing.specs.Placing.{Passed, Own, Other}
-use Rattle.accusing_links.specs.Segments.{Shown, packet_in, shown_by}
-use Rattle.accusing_links.specs.Back.{is_word, said_in, call_of, bit, calls_of, sent_in, sent_of}
-use Rattle.accusing_links.proofs.Passing.{or_same}
-use Rattle.accusing_links.proofs.FarLinks.{NoneTo, OneTo}
+use Rattle.accusing_links.proofs.Prelude.{◌≡◌, ℕ, ◌+◌, ◌≤◌, Bool, true, false, ◌&&◌, ◌||◌, ◌⊎◌, inl, inr, eqb, List, [], ◌∷◌, ◌++◌, refl, ap, arith}
+use Rattle.accusing_links.proofs.Prelude.{subst, ◌∙◌, list_any, and_parts, eqb-true, eq-eqb, reading, AckWord, NspValue, DataSegment, LinkService}
+use Rattle.accusing_links.proofs.Prelude.{DataAck, OtherDataAck, ConnectAck, NoOperation, ConnectInitiate, ConnectConfirm, DisconnectInitiate}
+use Rattle.accusing_links.proofs.Prelude.{DisconnectConfirm, Queues, LinkOf, is_of_data, WireSegments, Passed, Own, Other, Shown, packet_in}
+use Rattle.accusing_links.proofs.Prelude.{shown_by, is_word, said_in, call_of, bit, calls_of, sent_in, sent_of}
+use Rattle.accusing_links.proofs.{Passing.or_same, FarLinks.NoneTo, FarLinks.OneTo, FollowSends.Says, FollowSaid.IsAtLeast, FollowSaid.AreAtLeast}
 use Rattle.accusing_links.proofs.AllFollow.{AreFollowed, none_followed, one_followed, known_followed}
 use Rattle.accusing_links.proofs.FollowSteps.{IsPlain, IsConnect, not_both}
-use Rattle.accusing_links.proofs.FollowSends.{Says}
-use Rattle.accusing_links.proofs.FollowSaid.{IsAtLeast, AreAtLeast}
 
 -- ---- what was sent
 

@@ -1,8 +1,7 @@
 -- Places in a list of pieces.
-use Rattle.std.proofs.Common.{◌≡◌, ℕ, zero, suc, ◌+◌, ◌<◌, ◌≤◌, Bool, true, false, cond, Option, Some, None, List, [], ◌∷◌, take, drop}
-use Rattle.std.proofs.Common.{refl, sym, subst, ap, arith, ◌⊎◌, inl, inr, ◌∙◌}
-use Rattle.std.specs.Prelude.{slice_get}
-use Rattle.dna_links.specs.Segmentation.{Piece, in_order, hold, Whole, with_piece, next_message, one_more, in_whole_messages}
+use Rattle.accusing_links.proofs.Prelude.{◌≡◌, ℕ, zero, suc, ◌+◌, ◌<◌, ◌≤◌, Bool, true, false, cond, Option, Some, None, List, [], ◌∷◌, take, drop}
+use Rattle.accusing_links.proofs.Prelude.{refl, sym, subst, ap, arith, ◌⊎◌, inl, inr, ◌∙◌, slice_get, Piece, in_order, hold, Whole, with_piece}
+use Rattle.accusing_links.proofs.Prelude.{next_message, one_more, in_whole_messages}
 
 -- what comes before the first that is missing is there
 pub there_in_order : (xs : List (Option Piece)) (i : ℕ) → i < in_order xs → (p : Piece) × (slice_get xs i ≡ Some (Some p))

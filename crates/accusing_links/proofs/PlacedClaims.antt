@@ -1,45 +1,26 @@
 -- What is claimed holds of each unit of a side for which records exist.
-use Rattle.std.proofs.Common.{◌≡◌, ℕ, ◌+◌, ◌<◌, ◌≤◌, Bool, true, false, Some, Ok, List, []}
-use Rattle.std.proofs.Common.{◌∷◌, ◌++◌, refl, sym, subst, ap, ◌∙◌, ◌⊎◌, inl, inr, arith, append_assoc, append-nil}
-use Rattle.ddcmp_msg.specs.Message.{MessageValue, IsBytes}
-use Rattle.ddcmp_msg.specs.Reading.{ReadingValue, reading, Sound, HeaderBad, DataBad, Malformed}
-use Rattle.capture_record.specs.declared.fate.Fate.{Fate}
-use Rattle.capture_record.specs.declared.fate.Fate.TheVariants.{NotKept}
-use Rattle.capture_record.specs.declared.record.Record.{Record}
-use Rattle.capture_record.specs.declared.event.Event.{Event}
-use Rattle.dna_packet.specs.Nsp.{IsInRange}
-use Rattle.dna_station.specs.declared.head.Head.{Head}
-use Rattle.dna_station.specs.Book.{body_of, resp_of}
+use Rattle.accusing_links.proofs.Prelude.{◌≡◌, ℕ, ◌+◌, ◌<◌, ◌≤◌, Bool, true, false, Some, Ok, List, [], ◌∷◌, ◌++◌, refl, sym, subst, ap, ◌∙◌, ◌⊎◌}
+use Rattle.accusing_links.proofs.Prelude.{inl, inr, arith, append_assoc, append-nil, MessageValue, IsBytes, ReadingValue, reading, Sound, Malformed}
+use Rattle.accusing_links.proofs.Prelude.{Fate, NotKept, Record, Event, IsInRange, Head, body_of, resp_of, Queues, LinkTag, of_anyone, Carried}
+use Rattle.accusing_links.proofs.Prelude.{WireLinks, wire_links_arrived, content, WireLayers, LayersTag, new_wire_layers_node, to_wire_station}
+use Rattle.accusing_links.proofs.Prelude.{content_in_range, Passed, Own, Other, IsDamage, comes, IsPlacedFrom, Ends, Passes, Sends, Hears}
+use Rattle.accusing_links.proofs.Prelude.{HearsNoise, Acts, byte_of, node_machine, NameLinks, IsNodePlacing, packet_in, shown_by, call_of, bit}
+use Rattle.accusing_links.proofs.Prelude.{calls_of}
+use Rattle.ddcmp_msg.specs.Reading.{HeaderBad, DataBad}
 use Rattle.dna_station.specs.Book as arrival
-use Rattle.dna_links.specs.declared.queue.Queues.{Queues}
-use Rattle.dna_links.specs.declared.tag.LinkTag.{LinkTag}
-use Rattle.dna_links.specs.Arriving.{of_anyone}
-use Rattle.dna_links.specs.Links.{Carried}
-use Rattle.dna_links.specs.WireLinks.{WireLinks, wire_links_arrived}
-use Rattle.dna_node.specs.Content.{content}
-use Rattle.dna_node.specs.WireLayers.{WireLayers, LayersTag, new_wire_layers_node, to_wire_station}
-use Rattle.dna_node.proofs.ReadInRange.{content_in_range}
-use Rattle.accusing.specs.Placing.{Passed, Own, Other, IsDamage, comes, IsPlacedFrom, Ends, Passes, Sends, Hears, HearsNoise, Acts}
-use Rattle.accusing.proofs.Bytes.{byte_of}
-use Rattle.accusing_links.specs.Placing.{node_machine, NameLinks, IsNodePlacing}
-use Rattle.accusing_links.specs.Segments.{packet_in, shown_by}
-use Rattle.accusing_links.specs.Back.{call_of, bit, calls_of}
 use Rattle.accusing_links.proofs.Nodes.{MayCome, sends_right, acts_right}
 use Rattle.accusing_links.proofs.Numbered.{IsNumbered, HasByte, arrives_numbered, user_numbered}
 use Rattle.accusing_links.proofs.Inverted.{LinksMade, Nothing, Did, Composed, IsSent, Again, NoMessage, First, is_sent, IsMet, is_met_as, HasActed}
 use Rattle.accusing_links.proofs.Inverted.{Alone, Both, has_acted}
 use Rattle.accusing_links.proofs.Inverted as met
-use Rattle.accusing_links.proofs.Final.{N, Is, Fine, Comes, kept, Right, Came, message_may, damage_right, comes_right, UnitCame, AllCame}
-use Rattle.accusing_links.proofs.Final.{all_behind, first_right}
-use Rattle.accusing_links.proofs.AllFollow.{all_same}
+use Rattle.accusing_links.proofs.RightNode.{N, Is, Fine, Comes, kept, Right, Came, message_may, damage_right, comes_right}
+use Rattle.accusing_links.proofs.Final.{UnitCame, AllCame, all_behind, first_right}
+use Rattle.accusing_links.proofs.{AllFollow.all_same, FollowSends.sent_follows, Shown.shown_call, Claims.Claim}
 use Rattle.accusing_links.proofs.FollowSteps.{IsPlain, user_follows, arrived_follows, arrived_one}
-use Rattle.accusing_links.proofs.FollowSends.{sent_follows}
 use Rattle.accusing_links.proofs.Phases.{calls_in, calls_behind}
 use Rattle.accusing_links.proofs.Phases.{call_plain, call_connect, IsPhase, Follow, phase_follows}
 use Rattle.accusing_links.proofs.Onwards.{Q, said, Gone}
-use Rattle.accusing_links.proofs.Shown.{shown_call}
 use Rattle.accusing_links.proofs.NoneBack.{State, other_state, sent_state}
-use Rattle.accusing_links.proofs.Claims.{Claim}
 
 same_message : {K : Type 0} (m n : MessageValue) (tag known : K) →
     ◌≡◌ {A = arrival.ArrivalValue K} (arrival.Sound m tag) (arrival.Sound n known) → m ≡ n

@@ -1,13 +1,6 @@
 -- What effects make of a link's port.
-use Rattle.std.proofs.Common.{◌≡◌, Bool, true, false, None, refl}
-use Rattle.dna_links.specs.declared.port.Phase.{Phase}
-use Rattle.dna_links.specs.declared.port.Phase.TheVariants.{Called, Ended}
-use Rattle.dna_links.specs.declared.queue.Queues.{Queues}
-use Rattle.dna_links.specs.declared.queue.Queues.TheVariants.{Without, With}
-use Rattle.dna_links.specs.LookUps.{is_live, is_in}
-use Rattle.dna_links.specs.Links.{LinkOf}
-use Rattle.dna_links.specs.Queues.{goes_on, goes_to, ends_by_message, drops, forgotten, booted_link}
-use Rattle.dna_links.specs.WireSegments.{WireSegments, wire_segments}
+use Rattle.accusing_links.proofs.Prelude.{◌≡◌, Bool, true, false, None, refl, Phase, Called, Ended, Queues, Without, With, is_live, is_in, LinkOf}
+use Rattle.accusing_links.proofs.Prelude.{goes_on, goes_to, ends_by_message, drops, forgotten, booted_link, WireSegments, wire_segments}
 
 pub dropped_port : (q : Queues) (l : LinkOf WireSegments) → (drops wire_segments q l).port ≡ record l.port { phase = Ended }
 dropped_port Without l = refl

@@ -1,16 +1,10 @@
 -- What the segments of a link have received passed: whatever passed, by a predicate on numbers modulo 4,096.
-use Rattle.std.proofs.Common.{◌≡◌, ℕ, ◌+◌, ◌-◌, ◌<◌, ◌≤◌, Bool, true, false, ◌&&◌, cond, leb, Option, Some, None, List, [], ◌∷◌}
-use Rattle.std.proofs.Common.{length, drop, refl, sym, subst, arith, ◌⊎◌, inl, inr}
-use Rattle.std.specs.Prelude.{slice_get}
-use Rattle.std.proofs.lemmas.Bool.{and_parts, leb-true, leb-false}
-use Rattle.dna_packet.specs.declared.ack_word.AckWord.{AckWord}
-use Rattle.dna_packet.specs.Nsp.{SegmentValue}
-use Rattle.dna_links.specs.Segmentation.{Piece, piece_of, in_order, Whole, next_message, in_whole_messages}
-use Rattle.dna_links.specs.SegmentBook.{REACH, wire, distance, is_of_data}
-use Rattle.dna_links.specs.WireSegments.{LinkVariables, WireSegments, empty, delivered_as, delivers_whole, delivers, LastSent, last_of}
-use Rattle.dna_links.specs.WireSegments.{acknowledged_to, acknowledged_by}
-use Rattle.dna_links.specs.WireSegments.{acknowledged_by_all, held, with_pieces, with_segment, takes_acks, takes_segment, ends}
-use Rattle.dna_links.proofs.Cut.Pieces.{in_order-hold, in_order-drop}
+use Rattle.accusing_links.proofs.Prelude.{◌≡◌, ℕ, ◌+◌, ◌-◌, ◌<◌, ◌≤◌, Bool, true, false, ◌&&◌, cond, leb, Option, Some, None, List, [], ◌∷◌, length}
+use Rattle.accusing_links.proofs.Prelude.{drop, refl, sym, subst, arith, ◌⊎◌, inl, inr, slice_get, and_parts, leb-true, leb-false, AckWord}
+use Rattle.accusing_links.proofs.Prelude.{SegmentValue, Piece, piece_of, in_order, Whole, next_message, in_whole_messages, REACH, wire, distance}
+use Rattle.accusing_links.proofs.Prelude.{is_of_data, LinkVariables, WireSegments, empty, delivered_as, delivers_whole, delivers, LastSent, last_of}
+use Rattle.accusing_links.proofs.Prelude.{acknowledged_to, acknowledged_by, acknowledged_by_all, held, with_pieces, with_segment, takes_acks}
+use Rattle.accusing_links.proofs.Prelude.{takes_segment, ends, in_order-hold, in_order-drop}
 use Rattle.accusing_links.proofs.Words.{distance_on, IsLast}
 use Rattle.accusing_links.proofs.Pieces.{there_in_order, held_or_there, dropped_get, whole_in_order, wholes_in_order, none_behind}
 

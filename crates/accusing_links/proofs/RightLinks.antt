@@ -1,20 +1,10 @@
 -- What every link of a node has received passed for it; and what becomes of that by each effect of a row.
-use Rattle.std.proofs.Common.{◌≡◌, ℕ, Bool, true, false, Option, Some, List, fold}
-use Rattle.dna_links.specs.declared.port.Phase.{Phase}
-use Rattle.dna_links.specs.declared.port.Phase.TheVariants.{Calling, Called}
-use Rattle.dna_links.specs.declared.queue.Queues.{Queues}
-use Rattle.dna_links.specs.declared.queue.Queues.TheVariants.{Without, With}
-use Rattle.dna_links.specs.declared.queue.Said.{Said}
-use Rattle.dna_links.specs.LookUps.{is_live}
-use Rattle.dna_links.specs.Links.{LinkOf, LinkTruth}
-use Rattle.dna_links.specs.Queues.{keeps_numbers, further, goes_on, goes_to, ends_by_message, drops, requeued, lets_go}
-use Rattle.dna_links.specs.Queues.{forgotten, drops_segments}
-use Rattle.dna_links.specs.Table.{Effect, OpenHere, GiveAddress, Connect, GoTo, End, Drop, EndAll, Say, Settle, Keep, HandIn, TakeSegment, TakeAcks}
-use Rattle.dna_links.specs.WireSegments.{WireSegments, wire_segments}
-use Rattle.dna_links.specs.LinkBook.{blank, does}
+use Rattle.accusing_links.proofs.Prelude.{◌≡◌, ℕ, Bool, true, false, Option, Some, List, fold, Phase, Calling, Called, Queues, Without, With, Said}
+use Rattle.accusing_links.proofs.Prelude.{is_live, LinkOf, LinkTruth, keeps_numbers, further, goes_on, goes_to, ends_by_message, drops, requeued}
+use Rattle.accusing_links.proofs.Prelude.{lets_go, forgotten, drops_segments, Effect, OpenHere, GiveAddress, Connect, GoTo, End, Drop, EndAll, Say}
+use Rattle.accusing_links.proofs.Prelude.{Settle, Keep, HandIn, TakeSegment, TakeAcks, WireSegments, wire_segments, blank, does}
 use Rattle.accusing_links.proofs.Received.{Received, weaker, empty_received, ends_received, acks_received}
-use Rattle.accusing_links.proofs.Each.{Each, each_more}
-use Rattle.accusing_links.proofs.Rows.{all_done}
+use Rattle.accusing_links.proofs.{Each.Each, Each.each_more, Rows.all_done}
 
 -- a link that nothing may have come on yet
 abbrev pub is_early : Phase → Bool

@@ -1,36 +1,17 @@
 -- What holds of the link that a row is of holds of what the row makes of it, and so of all links: by any row of the tables. To be shown are the
 -- asks that change numbers and the effects, once each.
-use Rattle.std.proofs.Common.{◌≡◌, ℕ, ◌&&◌, eqb, Option, Some, None, Ok, List, [], ◌∷◌, fold, refl}
-use Rattle.std.specs.Prelude.{slice_get}
-use Rattle.dna_packet.specs.declared.ack_word.AckWord.{AckWord}
-use Rattle.dna_packet.specs.Nsp.{SegmentValue}
-use Rattle.dna_station.specs.declared.link_refusal.LinkRefusal.{LinkRefusal}
-use Rattle.dna_station.specs.declared.link_refusal.LinkRefusal.TheVariants.{WrongNode}
-use Rattle.dna_links.specs.declared.port.Phase.{Phase}
-use Rattle.dna_links.specs.declared.port.Phase.TheVariants.{Running, Disconnecting}
-use Rattle.dna_links.specs.declared.port.LinkTest.{LinkTest}
-use Rattle.dna_links.specs.declared.port.LinkTest.TheVariants.{HasAddress}
-use Rattle.dna_links.specs.declared.queue.Queues.{Queues}
-use Rattle.dna_links.specs.declared.queue.Queues.TheVariants.{Without, With}
-use Rattle.dna_links.specs.declared.queue.Said.{Said}
-use Rattle.dna_links.specs.declared.queue.Said.TheVariants.{OfRun, Disconnect}
-use Rattle.dna_links.specs.declared.tag.LinkTag.{LinkTag}
-use Rattle.dna_links.specs.SegmentBook.{Sending}
-use Rattle.dna_links.specs.Links.{LinkOf, LinkTruth, Carried, at_number, on_link, number_of, with_link, with_segments, begun, changed}
-use Rattle.dna_links.specs.Queues.{with_queue, further, requeued, shows_by, settled, forgotten, booted, booted_link}
-use Rattle.dna_links.specs.Table.{Ask, Finds, FindsEither, FindsNone, FindsInUse, KnowsInUse, InPhase, InTurn, OrElse, ForThisLink, OfThisPair}
-use Rattle.dna_links.specs.Table.{Delivers, SendsSegment, SendsAcks, Effect, GiveAddress, EndAll, Say, Settle, Row, Asks}
-use Rattle.dna_links.specs.Table.{user_row, arrival_row}
-use Rattle.dna_links.specs.User.{LinkEventValue}
-use Rattle.dna_links.specs.WireSegments.{WireSegments, wire_segments, delivers}
+use Rattle.accusing_links.proofs.Prelude.{◌≡◌, ℕ, ◌&&◌, eqb, Option, Some, None, Ok, List, [], ◌∷◌, fold, refl, slice_get, AckWord, SegmentValue}
+use Rattle.accusing_links.proofs.Prelude.{LinkRefusal, WrongNode, Phase, Running, Disconnecting, LinkTest, HasAddress, Queues, Without, With, Said}
+use Rattle.accusing_links.proofs.Prelude.{OfRun, Disconnect, LinkTag, Sending, LinkOf, LinkTruth, Carried, at_number, on_link, number_of, with_link}
+use Rattle.accusing_links.proofs.Prelude.{with_segments, begun, changed, with_queue, further, requeued, shows_by, settled, forgotten, booted}
+use Rattle.accusing_links.proofs.Prelude.{booted_link, Ask, Finds, FindsEither, FindsNone, FindsInUse, KnowsInUse, InPhase, InTurn, OrElse}
+use Rattle.accusing_links.proofs.Prelude.{ForThisLink, OfThisPair, Delivers, SendsSegment, SendsAcks, Effect, GiveAddress, EndAll, Say, Settle, Row}
+use Rattle.accusing_links.proofs.Prelude.{Asks, user_row, arrival_row, LinkEventValue, WireSegments, wire_segments, delivers, WireLinks}
+use Rattle.accusing_links.proofs.Prelude.{wire_links_user, wire_links_sent, wire_links_arrived, blank, does, kept, others, after, of_none, Sent}
+use Rattle.accusing_links.proofs.Prelude.{PartnerRule}
 use Rattle.dna_links.specs.WireSegments as wire
-use Rattle.dna_links.specs.WireLinks.{WireLinks, wire_links_user, wire_links_sent, wire_links_arrived}
-use Rattle.dna_links.specs.LinkBook.{blank, does, kept, others, after, of_none}
-use Rattle.dna_links.specs.Sending.{Sent}
-use Rattle.dna_links.specs.Arriving.{PartnerRule}
 use Rattle.accusing_links.proofs.Each.{Each, each_at, each_pushed, each_changed, each_mapped}
-use Rattle.accusing_links.proofs.Answered.{Good, good_check}
-use Rattle.accusing_links.proofs.Finds.{either_there}
+use Rattle.accusing_links.proofs.{Answered.Good, Answered.good_check, Finds.either_there}
 use Rattle.accusing_links.proofs.Along.{OfRow, SentBy, Otherwise, Shows, RowShows, SendShows, Sends, user_by_row, comes_by_row, sent_good}
 
 -- what a node does not remember without queues is left out

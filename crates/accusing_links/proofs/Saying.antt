@@ -1,8 +1,6 @@
 -- Numbers that were said, one after the other.
-use Rattle.std.proofs.Common.{◌≡◌, ℕ, zero, suc, ◌+◌, ◌<◌, Bool, true, false, ◌||◌, refl, sym, subst, ap₂, arith, eqb}
-use Rattle.std.proofs.lemmas.Bool.{eqb-true, eqb-false}
-use Rattle.dna_links.specs.SegmentBook.{wire}
-use Rattle.accusing_links.specs.Back.{was_said}
+use Rattle.accusing_links.proofs.Prelude.{◌≡◌, ℕ, zero, suc, ◌+◌, ◌<◌, Bool, true, false, ◌||◌, refl, sym, subst, ap₂, arith, eqb, eqb-true}
+use Rattle.accusing_links.proofs.Prelude.{eqb-false, wire, was_said}
 
 pub none_said : (said : ℕ → Bool) (number : ℕ) → was_said said number 0 ≡ false
 unfolding was_said

@@ -1,19 +1,14 @@
 -- What the words of a link acknowledge, where it may send them, passed; and what it received stays so.
-use Rattle.std.proofs.Common.{◌≡◌, ℕ, Bool, true, false, ◌&&◌, ◌||◌, cond, leb, ltb, Option, Some, None, Result, Ok, Err, List, [], ◌∷◌, length}
-use Rattle.std.proofs.Common.{refl, sym, subst, arith, ◌⊎◌, inl, inr, not, ◌+◌, ◌-◌, ◌<◌, ◌≤◌}
-use Rattle.std.specs.List.{AllByRecursion}
-use Rattle.std.proofs.lemmas.Bool.{leb-true, leb-false}
-use Rattle.dna_packet.specs.declared.ack_word.AckWord.{AckWord}
-use Rattle.dna_packet.specs.AckWord.{IsAckWord}
-use Rattle.dna_packet.specs.Nsp.{SegmentValue}
-use Rattle.dna_station.specs.declared.link_refusal.LinkRefusal.{LinkRefusal}
-use Rattle.dna_station.specs.declared.link_refusal.LinkRefusal.TheVariants.{WrongSegment, WrongAck, SegmentTooLong, LinkWindowFull}
-use Rattle.dna_links.specs.Links.{LinkOf}
-use Rattle.dna_links.specs.Segmentation.{Piece, piece_of, is_next_piece}
-use Rattle.dna_links.specs.SegmentBook.{Sending, Late, with_gap, wider, REACH, distance, wire, is_of_data}
-use Rattle.dna_links.specs.WireSegments.{WireSegments, LastSent, LateSent, last_of, all_named, with_last, sending, acks_named, sends_acks, with_new}
-use Rattle.dna_links.specs.WireSegments.{sends_new, is_repeat, sends_again, is_new, segment_named, sends_segment, all_named_late, went_on, new_late}
-use Rattle.dna_links.specs.WireSegments.{sends_late, highest_given}
+use Rattle.accusing_links.proofs.Prelude.{◌≡◌, ℕ, Bool, true, false, ◌&&◌, ◌||◌, cond, leb, ltb, Option, Some, None, Result, Ok, Err, List, [], ◌∷◌}
+use Rattle.accusing_links.proofs.Prelude.{length, refl, sym, subst, arith, ◌⊎◌, inl, inr, not, ◌+◌, ◌-◌, ◌<◌, ◌≤◌, AllByRecursion, leb-true}
+use Rattle.accusing_links.proofs.Prelude.{leb-false, AckWord, IsAckWord, SegmentValue, LinkRefusal, WrongSegment, SegmentTooLong, LinkWindowFull}
+use Rattle.accusing_links.proofs.Prelude.{LinkOf, Piece, piece_of, is_next_piece, Sending, Late, with_gap, wider, REACH, distance, wire, is_of_data}
+use Rattle.accusing_links.proofs.Prelude.{WireSegments, LastSent, LateSent, last_of, all_named, with_last, sending, acks_named, sends_new}
+use Rattle.accusing_links.proofs.Prelude.{is_repeat, sends_again, is_new, segment_named, all_named_late, went_on, new_late, sends_late}
+use Rattle.accusing_links.proofs.Prelude.{highest_given}
+use Rattle.dna_station.specs.declared.link_refusal.LinkRefusal.TheVariants.{WrongAck}
+use Rattle.dna_links.specs.WireSegments.{sends_acks, with_new}
+use Rattle.dna_links.specs.WireSegments.{sends_segment}
 use Rattle.accusing_links.proofs.Answered.{Good, good_ok, good_err, good_check}
 use Rattle.accusing_links.proofs.Along.{SentBy, AtOnce, Waited}
 use Rattle.accusing_links.proofs.Words.{IsLast, Stands, AllStand, all_named_is, all_late_is}

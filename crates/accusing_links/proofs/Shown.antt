@@ -1,20 +1,8 @@
 -- What a data unit of a side shows, by its message; and that it was sent.
-use Rattle.std.proofs.Common.{◌≡◌, ℕ, true, Option, Some, None, Result, Ok, List, []}
-use Rattle.std.proofs.Common.{◌∷◌, ◌++◌, sym, subst, ap, ◌∙◌}
-use Rattle.ddcmp_msg.specs.Message.{MessageValue, Data, Ack, Nak, Rep, Strt, Stack}
-use Rattle.ddcmp_msg.specs.Reading.{ReadingValue, reading, Sound}
-use Rattle.dna_packet.specs.Nsp.{NspValue}
-use Rattle.dna_station.specs.declared.refusal.StepRefusal.{StepRefusal}
-use Rattle.dna_station.specs.Book.{body_of}
-use Rattle.dna_links.specs.Links.{Carried}
-use Rattle.dna_node.specs.Content.{content}
-use Rattle.accusing.specs.Placing.{Passed, Own}
-use Rattle.accusing_links.specs.Segments.{Shown, packet_in, shown_in, shown_by}
-use Rattle.accusing_links.specs.Back.{sent_in, sent_of, call_of}
-use Rattle.accusing_links.proofs.Numbered.{Bears}
-use Rattle.accusing_links.proofs.Phases.{sent_own}
-use Rattle.accusing_links.proofs.Onwards.{Gone}
-use Rattle.accusing_links.proofs.Follows.{or_first}
+use Rattle.accusing_links.proofs.Prelude.{◌≡◌, ℕ, true, Option, Some, None, Result, Ok, List, [], ◌∷◌, ◌++◌, sym, subst, ap, ◌∙◌, MessageValue}
+use Rattle.accusing_links.proofs.Prelude.{Data, Ack, Nak, Rep, Strt, Stack, ReadingValue, reading, Sound, NspValue, StepRefusal, body_of, Carried}
+use Rattle.accusing_links.proofs.Prelude.{content, Passed, Own, Shown, packet_in, shown_in, shown_by, sent_in, sent_of, call_of}
+use Rattle.accusing_links.proofs.{Numbered.Bears, Phases.sent_own, Onwards.Gone, Follows.or_first}
 
 module _ (of : ℕ → NspValue → Shown) where
   -- what a data unit shows

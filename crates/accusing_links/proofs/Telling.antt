@@ -1,27 +1,15 @@
 -- What is known of acknowledgements by the lists in which it is kept.
-use Rattle.std.proofs.Common.{◌≡◌, ℕ, ◌+◌, Bool, true, false, ◌&&◌, ◌||◌, not, eqb, leb, Option, Some, None, Result, Ok, Err, OnOk, List, []}
-use Rattle.std.proofs.Common.{◌∷◌, ◌++◌}
-use Rattle.std.proofs.Common.{refl, sym, subst, ap, ap₂, ◌∙◌, arith}
-use Rattle.std.specs.List.{list_any}
-use Rattle.std.proofs.lemmas.Bool.{eqb-true, leb-true, leb-false}
-use Rattle.ddcmp_msg.specs.Message.{Data, Ack, Nak, Rep, Strt, Stack}
-use Rattle.ddcmp_msg.specs.declared.flags.Flags.{Flags}
-use Rattle.ddcmp_msg.specs.Reading.{ReadingValue, reading, Sound, HeaderBad, DataBad, Malformed}
-use Rattle.dna_packet.specs.declared.ack_word.AckWord.{AckWord}
-use Rattle.dna_packet.specs.Nsp.{NspValue, DataSegment, DataAck, LinkService, OtherDataAck, ConnectAck, NoOperation, ConnectInitiate, ConnectConfirm}
-use Rattle.dna_packet.specs.Nsp.{DisconnectInitiate, DisconnectConfirm}
-use Rattle.dna_station.specs.declared.refusal.StepRefusal.{StepRefusal}
-use Rattle.dna_links.specs.SegmentBook.{REACH, wire, is_of_data}
-use Rattle.dna_links.specs.Links.{Carried}
-use Rattle.dna_node.specs.Content.{content}
-use Rattle.accusing.specs.Placing.{Passed, Own, Other}
-use Rattle.accusing_links.specs.AckAnswers.{AckSight, told_by, AreKnownAfter}
-use Rattle.accusing_links.specs.Segments.{has, is_this, packet_in, shown_in, shown_by, segment_of}
-use Rattle.accusing_links.specs.Back.{said_in, alone_in, sent_in, call_of, bit, calls_of, Told, told, is_back, is_back_message, is_back_in}
-use Rattle.accusing_links.specs.Back.{is_back_unit}
-use Rattle.accusing_links.proofs.Passing.{own_passed, shown_noted}
+use Rattle.accusing_links.proofs.Prelude.{◌≡◌, ℕ, ◌+◌, Bool, true, false, ◌&&◌, ◌||◌, not, eqb, leb, Option, Some, None, Result, Ok, Err, OnOk}
+use Rattle.accusing_links.proofs.Prelude.{List, [], ◌∷◌, ◌++◌, refl, sym, subst, ap, ap₂, ◌∙◌, arith, list_any, eqb-true, leb-true, leb-false, Data}
+use Rattle.accusing_links.proofs.Prelude.{Ack, Nak, Rep, Strt, Stack, Flags, ReadingValue, reading, Sound, Malformed, AckWord, NspValue}
+use Rattle.accusing_links.proofs.Prelude.{DataSegment, DataAck, LinkService, OtherDataAck, ConnectAck, NoOperation, ConnectInitiate, ConnectConfirm}
+use Rattle.accusing_links.proofs.Prelude.{DisconnectInitiate, DisconnectConfirm, StepRefusal, REACH, wire, is_of_data, Carried, content, Passed}
+use Rattle.accusing_links.proofs.Prelude.{Own, Other, AckSight, told_by, AreKnownAfter, has, is_this, packet_in, shown_in, shown_by, segment_of}
+use Rattle.accusing_links.proofs.Prelude.{said_in, alone_in, sent_in, call_of, bit, calls_of, Told, told, is_back, is_back_message, is_back_in}
+use Rattle.accusing_links.proofs.Prelude.{is_back_unit}
+use Rattle.ddcmp_msg.specs.Reading.{HeaderBad, DataBad}
+use Rattle.accusing_links.proofs.{Passing.own_passed, Passing.shown_noted, Saying.was_said_same}
 use Rattle.accusing_links.proofs.Phases.{sent_own, sent_other, calls_own, calls_other}
-use Rattle.accusing_links.proofs.Saying.{was_said_same}
 
 -- ---- calls
 

@@ -1,23 +1,11 @@
 -- A link gets its far address by a CI or a CC that passed, and tells by its phase which; one that a CI began gets into RUN by a message of RUN that
 -- passed; its own address is not 0; what becomes of that by each effect of a row.
-use Rattle.std.proofs.Common.{◌≡◌, ℕ, Bool, true, false, ◌||◌, Some, List, fold, refl, sym, subst}
-use Rattle.dna_links.specs.declared.port.Phase.{Phase}
-use Rattle.dna_links.specs.declared.port.Phase.TheVariants.{Calling, Called, Confirming, Running, Disconnecting, Ended}
-use Rattle.dna_links.specs.declared.port.Port.{Port}
-use Rattle.dna_links.specs.declared.queue.LinkQueue.{LinkQueue}
-use Rattle.dna_links.specs.declared.queue.Queues.{Queues}
-use Rattle.dna_links.specs.declared.queue.Queues.TheVariants.{Without, With}
-use Rattle.dna_links.specs.LookUps.{is_live, is_in}
-use Rattle.dna_links.specs.Links.{LinkOf, LinkTruth}
-use Rattle.dna_links.specs.Queues.{reached, goes_on, goes_to, ends_by_message, drops, forgotten}
-use Rattle.dna_links.specs.Table.{Effect, OpenHere, GiveAddress, Connect, GoTo, End, Drop, EndAll, Say, Settle, Keep, HandIn, TakeSegment, TakeAcks}
-use Rattle.dna_links.specs.WireSegments.{WireSegments, wire_segments}
-use Rattle.dna_links.specs.LinkBook.{blank, does}
-use Rattle.accusing_links.specs.Connects.{CI, CC, RUN}
-use Rattle.accusing_links.proofs.Named.{IsAddress}
-use Rattle.accusing_links.proofs.Each.{Each, each_more}
-use Rattle.accusing_links.proofs.Rows.{all_done}
-use Rattle.accusing_links.proofs.RightLinks.{Numbers}
+use Rattle.accusing_links.proofs.Prelude.{◌≡◌, ℕ, Bool, true, false, ◌||◌, Some, List, fold, refl, sym, subst, Phase, Calling, Called, Confirming}
+use Rattle.accusing_links.proofs.Prelude.{Running, Disconnecting, Ended, Port, LinkQueue, Queues, Without, With, is_live, is_in, LinkOf, LinkTruth}
+use Rattle.accusing_links.proofs.Prelude.{reached, goes_on, goes_to, ends_by_message, drops, forgotten, Effect, OpenHere, GiveAddress, Connect}
+use Rattle.accusing_links.proofs.Prelude.{GoTo, End, Drop, EndAll, Say, Settle, Keep, HandIn, TakeSegment, TakeAcks, WireSegments, wire_segments}
+use Rattle.accusing_links.proofs.Prelude.{blank, does, CI, CC, RUN}
+use Rattle.accusing_links.proofs.{Named.IsAddress, Each.Each, Each.each_more, Rows.all_done, RightLinks.Numbers}
 
 -- a link in this phase was opened here, or begun by a CI
 abbrev pub Begun : Phase → Bool → Type 0

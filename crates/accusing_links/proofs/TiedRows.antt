@@ -1,14 +1,6 @@
 -- Every row keeps it that the links of a node have their far addresses by CIs and CCs that passed, where it gives no address and makes no link.
-use Rattle.std.proofs.Common.{◌≡◌, ℕ, Some}
-use Rattle.std.specs.Prelude.{slice_get}
-use Rattle.dna_links.specs.declared.queue.Queues.{Queues}
-use Rattle.dna_links.specs.Links.{LinkOf, LinkTruth}
-use Rattle.dna_links.specs.Queues.{drops}
-use Rattle.dna_links.specs.WireSegments.{WireSegments, wire_segments}
-use Rattle.dna_links.specs.WireLinks.{WireLinks}
-use Rattle.accusing_links.proofs.RightLinks.{Numbers}
-use Rattle.accusing_links.proofs.Each.{each_at}
-use Rattle.accusing_links.proofs.Along.{OfRow}
+use Rattle.accusing_links.proofs.Prelude.{◌≡◌, ℕ, Some, slice_get, Queues, LinkOf, LinkTruth, drops, WireSegments, wire_segments, WireLinks}
+use Rattle.accusing_links.proofs.{RightLinks.Numbers, Each.each_at, Along.OfRow}
 use Rattle.accusing_links.proofs.Rows.{Any, IsKept, AreKept, settled_by, each_keeps}
 use Rattle.accusing_links.proofs.Tied.{Is, blank_tied, dropped_tied, forgotten_tied, IsCalm, does_tied, AreTied}
 

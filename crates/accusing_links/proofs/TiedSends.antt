@@ -1,31 +1,15 @@
 -- What is sent keeps it that links have their far addresses by CIs and CCs that passed, and run by messages of RUN; and each message that needs a
 -- link has one that can be.
-use Rattle.std.proofs.Common.{◌≡◌, ℕ, Bool, true, false, ◌&&◌, ◌||◌, ◌⊎◌, inl, inr, not, refl, sym, ap, ◌∙◌}
-use Rattle.std.proofs.lemmas.Bool.{and_parts}
-use Rattle.dna_packet.specs.Nsp.{NspValue, DataSegment, LinkService, DataAck, OtherDataAck, ConnectAck, NoOperation, ConnectInitiate}
-use Rattle.dna_packet.specs.Nsp.{ConnectConfirm, DisconnectInitiate}
-use Rattle.dna_links.specs.declared.port.Phase.TheVariants.{Confirming, Running}
-use Rattle.dna_links.specs.declared.port.LinkTest.TheVariants.{TheLink, OpenedAt, BegunBy}
-use Rattle.dna_links.specs.declared.queue.Queues.{Queues}
-use Rattle.dna_links.specs.declared.queue.Queues.TheVariants.{Without, With}
-use Rattle.dna_links.specs.LookUps.{is_live, is_at}
-use Rattle.dna_links.specs.Links.{LinkOf, Carried}
-use Rattle.dna_links.specs.Queues.{may_send, is_silent, is_over}
-use Rattle.dna_links.specs.Table.{sending_row}
-use Rattle.dna_links.specs.WireSegments.{WireSegments, wire_segments}
-use Rattle.dna_links.specs.WireLinks.{WireLinks, wire_links_sent}
-use Rattle.dna_links.specs.LinkBook.{of_none}
-use Rattle.dna_links.specs.Sending.{Sent}
-use Rattle.accusing_links.specs.Connects.{CI, CC, RUN}
-use Rattle.accusing_links.proofs.Answered.{Good}
+use Rattle.accusing_links.proofs.Prelude.{◌≡◌, ℕ, Bool, true, false, ◌&&◌, ◌||◌, ◌⊎◌, inl, inr, not, refl, sym, ap, ◌∙◌, and_parts, NspValue}
+use Rattle.accusing_links.proofs.Prelude.{DataSegment, LinkService, DataAck, OtherDataAck, ConnectAck, NoOperation, ConnectInitiate, ConnectConfirm}
+use Rattle.accusing_links.proofs.Prelude.{DisconnectInitiate, Confirming, Running, TheLink, OpenedAt, BegunBy, Queues, Without, With, is_live}
+use Rattle.accusing_links.proofs.Prelude.{is_at, LinkOf, Carried, may_send, is_silent, is_over, sending_row, WireSegments, wire_segments, WireLinks}
+use Rattle.accusing_links.proofs.Prelude.{wire_links_sent, of_none, Sent, CI, CC, RUN}
+use Rattle.accusing_links.proofs.{Answered.Good, Along.SendShows, Along.sent_tells, Named.IsAddress, RightLinks.Numbers, TiedSteps.begun_in}
 use Rattle.accusing_links.proofs.Finds.{IsInUse, HasBoth, at_is, the_link}
-use Rattle.accusing_links.proofs.Along.{SendShows, sent_tells}
 use Rattle.accusing_links.proofs.Rows.{Any, IsCalmRow, calm_sends, sent_kept, always_sends}
-use Rattle.accusing_links.proofs.Named.{IsAddress}
-use Rattle.accusing_links.proofs.RightLinks.{Numbers}
 use Rattle.accusing_links.proofs.Tied.{Is, has_run, or_ran, IsCalm, AreTied}
 use Rattle.accusing_links.proofs.TiedRows.{Now, Are, there, keeps, all_keep}
-use Rattle.accusing_links.proofs.TiedSteps.{begun_in}
 
 abbrev pub Called : Numbers → ℕ → ℕ → Type 0
 Called P own far = IsAddress own × P CI 0 far

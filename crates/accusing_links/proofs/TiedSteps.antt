@@ -1,28 +1,13 @@
 -- What the user does and what comes keeps it that links have their far addresses by CIs and CCs that passed, and run by messages of RUN.
-use Rattle.std.proofs.Common.{◌≡◌, ℕ, Bool, true, false, Some, List, [], ◌∷◌, fold, refl, subst}
-use Rattle.dna_packet.specs.Nsp.{NspValue, DataSegment, LinkService, DataAck, OtherDataAck, ConnectInitiate, ConnectConfirm}
-use Rattle.dna_links.specs.declared.port.Phase.{Phase}
-use Rattle.dna_links.specs.declared.port.Phase.TheVariants.{Calling, Called, Confirming, Running, Disconnecting, Ended}
-use Rattle.dna_links.specs.declared.port.Port.{Port}
-use Rattle.dna_links.specs.declared.port.LinkTest.TheVariants.{CallingAt, CalledBy, ActedOn}
-use Rattle.dna_links.specs.declared.queue.Queues.{Queues}
-use Rattle.dna_links.specs.declared.tag.LinkTag.{LinkTag}
-use Rattle.dna_links.specs.LookUps.{is_in}
-use Rattle.dna_links.specs.Links.{LinkOf, LinkTruth, Carried}
-use Rattle.dna_links.specs.Queues.{goes_to}
-use Rattle.dna_links.specs.Table.{Row, Effect, Connect, GoTo, TakeSegment, TakeAcks, user_row, arrival_row}
-use Rattle.dna_links.specs.User.{LinkEventValue, Open, Accept, Reject, Close}
-use Rattle.dna_links.specs.WireSegments.{WireSegments, wire_segments}
-use Rattle.dna_links.specs.WireLinks.{WireLinks, wire_links_user, wire_links_arrived}
-use Rattle.dna_links.specs.LinkBook.{blank, does, of_none}
-use Rattle.dna_links.specs.Arriving.{PartnerRule}
-use Rattle.accusing_links.specs.Connects.{CI, CC, RUN}
-use Rattle.accusing_links.proofs.Answered.{Good}
+use Rattle.accusing_links.proofs.Prelude.{◌≡◌, ℕ, Bool, true, false, Some, List, [], ◌∷◌, fold, refl, subst, NspValue, DataSegment, LinkService}
+use Rattle.accusing_links.proofs.Prelude.{DataAck, OtherDataAck, ConnectInitiate, ConnectConfirm, Phase, Calling, Called, Confirming, Running}
+use Rattle.accusing_links.proofs.Prelude.{Disconnecting, Ended, Port, CallingAt, CalledBy, ActedOn, Queues, LinkTag, is_in, LinkOf, LinkTruth}
+use Rattle.accusing_links.proofs.Prelude.{Carried, goes_to, Row, Effect, Connect, GoTo, TakeSegment, TakeAcks, user_row, arrival_row}
+use Rattle.accusing_links.proofs.Prelude.{LinkEventValue, Open, Accept, Reject, Close, WireSegments, wire_segments, WireLinks, wire_links_user}
+use Rattle.accusing_links.proofs.Prelude.{wire_links_arrived, blank, does, of_none, PartnerRule, CI, CC, RUN}
+use Rattle.accusing_links.proofs.{Answered.Good, Along.RowShows, Named.IsAddress, Named.NamesOwn, RightLinks.Numbers}
 use Rattle.accusing_links.proofs.Finds.{Found, acted_on, called_by, calling_at}
-use Rattle.accusing_links.proofs.Along.{RowShows}
 use Rattle.accusing_links.proofs.Rows.{Any, IsCalmRow, calm_shows, user_kept, arrived_kept}
-use Rattle.accusing_links.proofs.Named.{IsAddress, NamesOwn}
-use Rattle.accusing_links.proofs.RightLinks.{Numbers}
 use Rattle.accusing_links.proofs.Tied.{Begun, Is, has_run, is_plain, RunPassed, blank_tied, goes_tied, runs_tied, IsCalm, AreCalm, all_tied, AreTied}
 use Rattle.accusing_links.proofs.TiedRows.{Now, Are, there, keeps, all_keep}
 

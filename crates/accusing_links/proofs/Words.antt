@@ -1,14 +1,8 @@
 -- Which numbers the acknowledgement words of a link that keeps its numbers modulo 4,096 stand for: numbers up to the highest that it received.
-use Rattle.std.proofs.Common.{◌≡◌, ℕ, ◌+◌, ◌-◌, ◌<◌, ◌≤◌, Bool, true, false, ◌&&◌, ◌||◌, cond, leb, Option, Some, None, List, [], ◌∷◌, refl}
-use Rattle.std.proofs.Common.{subst, arith}
-use Rattle.std.specs.List.{AllByRecursion}
-use Rattle.std.proofs.lemmas.Bool.{and_parts, leb-true, leb-false}
-use Rattle.dna_packet.specs.declared.ack_word.AckWord.{AckWord}
-use Rattle.dna_packet.specs.AckWord.{IsAckWord}
-use Rattle.dna_links.specs.SegmentBook.{REACH, wire, distance, is_of_data}
-use Rattle.dna_links.specs.WireSegments.{LastSent, is_ahead, is_behind, moved_to, last_named, after_first, all_named, LateSent}
-use Rattle.dna_links.specs.WireSegments.{last_named_late, gap_at}
-use Rattle.dna_links.specs.WireSegments.{after_first_late, all_named_late}
+use Rattle.accusing_links.proofs.Prelude.{◌≡◌, ℕ, ◌+◌, ◌-◌, ◌<◌, ◌≤◌, Bool, true, false, ◌&&◌, ◌||◌, cond, leb, Option, Some, None, List, [], ◌∷◌}
+use Rattle.accusing_links.proofs.Prelude.{refl, subst, arith, AllByRecursion, and_parts, leb-true, leb-false, AckWord, IsAckWord, REACH, wire}
+use Rattle.accusing_links.proofs.Prelude.{distance, is_of_data, LastSent, is_ahead, is_behind, moved_to, last_named, after_first, all_named}
+use Rattle.accusing_links.proofs.Prelude.{LateSent, last_named_late, gap_at, after_first_late, all_named_late}
 
 -- ---- numbers modulo 4,096
 

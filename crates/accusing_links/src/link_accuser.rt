@@ -1,7 +1,6 @@
 //! The node of one side of a line, accused by what is in its data units.
 
 ghost use Rattle.std.specs.Prelude.{◌≡◌, ◌||◌, [], ◌∷◌, ◌++◌, ℕ, List, IfSome, OnOk, OnErr};
-ghost use Rattle.std.specs.List.{list_all};
 ghost use Rattle.ddcmp_msg.specs.Reading.{reading};
 ghost use Rattle.dna_packet.specs.ReadingNsp.{nsp_at};
 ghost use Rattle.dna_packet.specs.Nsp.{view};
@@ -13,11 +12,13 @@ ghost use Rattle.accusing_links.specs.Heard.{heard};
 ghost use Rattle.accusing_links.specs.Segments.{has, packet_in, segment_of, shown_by, shown_in};
 ghost use Rattle.accusing_links.specs.Wrong as specs;
 
+mod acknowledging;
+
 use crate::found::{Found, find};
 use crate::triples::Triples;
 use crate::wrong::Wrong;
 use ddcmp_msg::{Message, Reading, read_unit};
-use dna_packet::{AckQualifier, AckWord, Nsp, read_nsp};
+use dna_packet::{Nsp, read_nsp};
 use dna_station::Head;
 use std::alloc::{AllocError, Global};
 use std::marker::Model;
@@ -253,46 +254,6 @@ impl LinkAccuser {
     {
         (self.was_called(far) && self.connects.has(RUN, own, far))
             || self.connects.has(CC, own, far)
-    }
-
-    // Whether the words of this message acknowledge what passed.
-    fn acknowledges(&self, message: &Nsp) -> bool
-        ensures { result ≡ specs.are_right_words (has self.now.segments) (view message.now) }
-    {
-        match message {
-            Nsp::DataSegment(segment) => {
-                self.have_passed(segment.srcaddr, segment.dstaddr, &segment.acks)
-            }
-            Nsp::DataAck(message) => {
-                self.have_passed(message.srcaddr, message.dstaddr, &message.acks)
-            }
-            Nsp::LinkService(_) | Nsp::OtherDataAck(_) | Nsp::ConnectAck(_) => true,
-            Nsp::NoOperation(_) | Nsp::ConnectInitiate(_) | Nsp::ConnectConfirm(_) => true,
-            Nsp::DisconnectInitiate(_) | Nsp::DisconnectConfirm(_) => true,
-        }
-    }
-
-    // Whether these words acknowledge what passed from one link to another.
-    fn have_passed(&self, own: u16, far: u16, words: &[AckWord]) -> bool
-        ensures { result ≡ list_all (specs.is_right_word (has self.now.segments own far)) words.now }
-    {
-        for word in words {
-            if !self.has_passed(own, far, *word) {
-                return false;
-            }
-        }
-        true
-    }
-
-    fn has_passed(&self, own: u16, far: u16, word: AckWord) -> bool
-        ensures { result ≡ specs.is_right_word (has self.now.segments own far) word }
-    {
-        match word.qualifier {
-            AckQualifier::OtherAck | AckQualifier::OtherNak => true,
-            AckQualifier::Ack | AckQualifier::Nak => {
-                word.number == 0 || self.segments.has(own, far, word.number)
-            }
-        }
     }
 }
 

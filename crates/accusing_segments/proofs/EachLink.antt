@@ -1,20 +1,10 @@
 -- What holds of each link of a node, by its number, holds after every row by which no link begins, is called, answered or ended, and no segment is
 -- sent or comes: where the effects of those rows keep it of one link.
-use Rattle.std.proofs.Common.{◌≡◌, ℕ, Bool, Option, Some, None, Ok, List, [], ◌∷◌, ◌++◌, refl, sym, subst}
-use Rattle.std.proofs.Common.{map, zero, suc, fold, length, ap, ◌⊎◌, inl, inr}
-use Rattle.std.specs.Prelude.{slice_get, slice_set}
-use Rattle.dna_packet.specs.declared.ack_word.AckWord.{AckWord}
-use Rattle.dna_links.specs.declared.queue.Queues.{Queues}
-use Rattle.dna_links.specs.SegmentBook.{Sending}
-use Rattle.dna_links.specs.Links.{LinkOf, LinkTruth, with_segments}
-use Rattle.dna_links.specs.Queues.{with_queue, settled, forgotten, booted_link}
-use Rattle.dna_links.specs.Table.{Effect, Drop, EndAll, Say, Settle, Keep, HandIn}
-use Rattle.dna_links.specs.WireSegments.{WireSegments, wire_segments, delivers}
+use Rattle.accusing_segments.proofs.Prelude.{◌≡◌, ℕ, Option, Some, None, Ok, List, [], ◌∷◌, ◌++◌, sym, subst, map, fold}
+use Rattle.accusing_segments.proofs.Prelude.{length, ◌⊎◌, inl, inr, slice_get, slice_set, AckWord, Queues, Sending, LinkOf, LinkTruth}
+use Rattle.accusing_segments.proofs.Prelude.{with_segments, with_queue, settled, forgotten, booted_link, Effect, EndAll, Say, Settle, Keep}
+use Rattle.accusing_segments.proofs.Prelude.{HandIn, WireSegments, wire_segments, delivers, WireLinks, blank, does, after, Each, IsKept, AreKept}
 use Rattle.dna_links.specs.WireSegments as wire
-use Rattle.dna_links.specs.WireLinks.{WireLinks}
-use Rattle.dna_links.specs.LinkBook.{blank, does, after}
-use Rattle.accusing_links.proofs.Each.{Each}
-use Rattle.accusing_links.proofs.Rows.{IsKept, AreKept}
 use Rattle.accusing_links.proofs.Rows as rows
 use Rattle.accusing_segments.proofs.LinkRows.{IsQuiet}
 use Rattle.accusing_segments.proofs.Places.{pushed_place, set_place, mapped_place}

@@ -1,34 +1,18 @@
 -- A side for which records exist sends no segment that is too long; and none that is out of order, if no record says that a packet was composed and
 -- never sent.
-use Rattle.std.proofs.Common.{◌≡◌, ℕ, Bool, true, false, not, Option, Some, None, Result, Ok, Err, List, [], ◌∷◌, ◌++◌}
-use Rattle.std.proofs.Common.{refl, sym, subst, ap, ◌∙◌, ◌⊎◌, inl, inr, append_assoc, append-nil}
-use Rattle.std.proofs.lemmas.Bool.{or_left}
-use Rattle.ddcmp_msg.specs.Message.{MessageValue, Data, Ack, Nak, Rep, Strt, Stack}
-use Rattle.ddcmp_msg.specs.Reading.{ReadingValue, reading, Sound, HeaderBad, DataBad, Malformed}
-use Rattle.capture_record.specs.declared.fate.Fate.{Fate}
-use Rattle.capture_record.specs.declared.fate.Fate.TheVariants.{NotKept}
-use Rattle.capture_record.specs.declared.record.Record.{Record}
-use Rattle.capture_record.specs.declared.record.Record.TheVariants.{User}
-use Rattle.capture_record.specs.declared.event.Event.{Event}
+use Rattle.accusing_segments.proofs.Prelude.{◌≡◌, ℕ, Bool, true, false, not, Option, Some, None, Result, Ok, Err, List, [], ◌∷◌, ◌++◌, refl, sym}
+use Rattle.accusing_segments.proofs.Prelude.{subst, ap, ◌∙◌, ◌⊎◌, inl, inr, append_assoc, append-nil, or_left, MessageValue, Data, Ack, Nak, Rep}
+use Rattle.accusing_segments.proofs.Prelude.{Strt, Stack, ReadingValue, reading, Sound, HeaderBad, DataBad, Malformed, Fate, NotKept, Record, User}
+use Rattle.accusing_segments.proofs.Prelude.{Event, NspValue, DataSegment, LinkService, DataAck, OtherDataAck, ConnectAck, NoOperation}
+use Rattle.accusing_segments.proofs.Prelude.{ConnectInitiate, ConnectConfirm, DisconnectInitiate, DisconnectConfirm, Head, StepRefusal, body_of}
+use Rattle.accusing_segments.proofs.Prelude.{Queues, Carried, content, WireLayers, LayersTag, new_wire_layers_node, Passed, Own, Other, IsDamage}
+use Rattle.accusing_segments.proofs.Prelude.{comes, IsPlacedFrom, Ends, Passes, Sends, Hears, HearsNoise, Acts, node_machine, IsNodePlacing}
+use Rattle.accusing_segments.proofs.Prelude.{packet_in, Carries, acknowledges, has_room, message_of, message_within, message_in, history}
+use Rattle.accusing_segments.proofs.Prelude.{is_wrong_message, is_wrong_in, is_wrong_unit, is_long_message, is_long_in, is_long_unit, SendsAll}
+use Rattle.accusing_segments.proofs.Prelude.{IsWrong}
 use Rattle.capture_record.specs.declared.event.Event.TheVariants as events
-use Rattle.dna_packet.specs.Nsp.{NspValue, DataSegment, LinkService, DataAck, OtherDataAck, ConnectAck, NoOperation, ConnectInitiate, ConnectConfirm}
-use Rattle.dna_packet.specs.Nsp.{DisconnectInitiate, DisconnectConfirm}
-use Rattle.dna_station.specs.declared.head.Head.{Head}
-use Rattle.dna_station.specs.declared.refusal.StepRefusal.{StepRefusal}
-use Rattle.dna_station.specs.Book.{body_of}
 use Rattle.dna_station.specs.Book as arrival
-use Rattle.dna_links.specs.declared.queue.Queues.{Queues}
-use Rattle.dna_links.specs.Links.{Carried}
-use Rattle.dna_node.specs.Content.{content}
-use Rattle.dna_node.specs.WireLayers.{WireLayers, LayersTag, new_wire_layers_node}
-use Rattle.accusing.specs.Placing.{Passed, Own, Other, IsDamage, comes, IsPlacedFrom, Ends, Passes, Sends, Hears, HearsNoise, Acts}
-use Rattle.accusing_links.specs.Placing.{node_machine, IsNodePlacing}
 use Rattle.accusing_links.specs.Answers.{IsWrong as IsWrongAnyhow}
-use Rattle.accusing_links.specs.Segments.{packet_in}
-use Rattle.accusing_links.proofs.Held.{Carries}
-use Rattle.accusing_segments.specs.History.{acknowledges, has_room, message_of, message_within, message_in, history}
-use Rattle.accusing_segments.specs.Wrong.{is_wrong_message, is_wrong_in, is_wrong_unit, is_long_message, is_long_in, is_long_unit}
-use Rattle.accusing_segments.specs.Answers.{SendsAll, IsWrong}
 use Rattle.accusing_segments.proofs.LinkSends.{SendsFine}
 use Rattle.accusing_segments.proofs.Nodes.{Of, In, MayCome, MayAct, IsRight, sends_right, right_later, arrives_right, acts_right}
 use Rattle.accusing_segments.proofs.Passing.{other_more, other_stays, Unless, AsLinks, passed_more, gone_now, gone_any, Came, come_now, fine_is_right}

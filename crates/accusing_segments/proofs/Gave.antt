@@ -1,20 +1,10 @@
 -- What the segments of a link have given was sent: of the numbers that passed, by predicates on numbers modulo 4,096.
-use Rattle.std.proofs.Common.{◌≡◌, ℕ, ◌+◌, ◌<◌, ◌≤◌, Bool, true, false, ◌&&◌, not, cond, leb, Option, Some, None, List, [], ◌∷◌}
-use Rattle.std.proofs.Common.{length, drop, refl, sym, subst, ◌∙◌, arith, ◌⊎◌, inl, inr}
-use Rattle.std.specs.Prelude.{slice_get}
-use Rattle.std.specs.List.{AllByRecursion}
-use Rattle.std.proofs.lemmas.Bool.{leb-true}
-use Rattle.std.proofs.lemmas.List.{length-drop}
-use Rattle.dna_packet.specs.declared.ack_word.AckWord.{AckWord}
-use Rattle.dna_packet.specs.AckWord.{IsAckWord}
-use Rattle.dna_packet.specs.Nsp.{SegmentValue}
-use Rattle.dna_links.specs.Segmentation.{Piece, piece_of}
-use Rattle.dna_links.specs.SegmentBook.{REACH, wire, distance, is_of_data}
-use Rattle.dna_links.specs.WireSegments.{LinkVariables, WireSegments, empty, acknowledged_to, acknowledged_by, acknowledged_by_all, takes_acks}
-use Rattle.dna_links.specs.WireSegments.{takes_segment, with_segment, held, with_pieces, ends, delivers, delivers_whole, delivered_as}
-use Rattle.dna_links.specs.Segmentation.{Whole, next_message}
-use Rattle.accusing_links.proofs.Words.{distance_on}
-use Rattle.accusing_links.proofs.Pieces.{dropped_get}
+use Rattle.accusing_segments.proofs.Prelude.{◌≡◌, ℕ, ◌+◌, ◌<◌, ◌≤◌, Bool, true, false, ◌&&◌, not, cond, leb, Option, Some, None, List, [], ◌∷◌}
+use Rattle.accusing_segments.proofs.Prelude.{length, drop, refl, sym, subst, ◌∙◌, arith, ◌⊎◌, inl, inr, slice_get, AllByRecursion, leb-true}
+use Rattle.accusing_segments.proofs.Prelude.{length-drop, AckWord, IsAckWord, SegmentValue, Piece, piece_of, REACH, wire, distance, is_of_data}
+use Rattle.accusing_segments.proofs.Prelude.{LinkVariables, WireSegments, empty, acknowledged_to, acknowledged_by, acknowledged_by_all, takes_acks}
+use Rattle.accusing_segments.proofs.Prelude.{takes_segment, with_segment, held, with_pieces, ends, delivers, delivers_whole, delivered_as, Whole}
+use Rattle.accusing_segments.proofs.Prelude.{next_message, distance_on, dropped_get}
 
 -- of one link: the numbers of the segments that were sent, with whether one ended its message; the numbers that were acknowledged; and for how many
 -- data bytes the other side has room in a segment

@@ -1,30 +1,16 @@
 -- A set of what is known has one more after it was put in; and histories that answer alike accuse alike.
-use Rattle.std.proofs.Common.{◌≡◌, ℕ, zero, suc, ◌+◌, Bool, true, false, ◌&&◌, ◌||◌, not, eqb, Option, Some, None, List, [], ◌∷◌, ◌++◌}
-use Rattle.std.proofs.Common.{refl, sym, subst, ap, ap₂, ◌∙◌, arith}
-use Rattle.std.proofs.Common.{Ordering, Less, Equal, Greater, nat_cmp, Result, Ok, Err, OnOk, option_map, length, take, get_or, ◌<◌}
-use Rattle.std.specs.List.{list_any}
-use Rattle.std.proofs.lemmas.Map.Lookups.{exact_unsigned}
-use Rattle.std.proofs.lemmas.List.{take_more}
-use Rattle.std.specs.Ordering.{ordering_then}
-use Rattle.dna_packet.specs.declared.ack_word.AckWord.{AckWord}
-use Rattle.dna_packet.specs.Nsp.{SegmentValue, NspValue, DataSegment, LinkService, DataAck, OtherDataAck, ConnectAck, NoOperation, ConnectInitiate}
-use Rattle.dna_packet.specs.Nsp.{ConnectConfirm, DisconnectInitiate, DisconnectConfirm, view, segment_view}
-use Rattle.dna_packet.specs.declared.nsp.Nsp.{Nsp}
+use Rattle.accusing_segments.proofs.Prelude.{◌≡◌, ℕ, zero, suc, ◌+◌, Bool, true, false, ◌&&◌, ◌||◌, not, eqb, Option, Some, None, List, [], ◌∷◌}
+use Rattle.accusing_segments.proofs.Prelude.{◌++◌, refl, sym, subst, ap, ap₂, ◌∙◌, arith, Ordering, Less, Equal, Greater, nat_cmp, Result, Ok, Err}
+use Rattle.accusing_segments.proofs.Prelude.{OnOk, option_map, length, take, get_or, ◌<◌, list_any, exact_unsigned, take_more, ordering_then}
+use Rattle.accusing_segments.proofs.Prelude.{AckWord, SegmentValue, NspValue, DataSegment, LinkService, DataAck, OtherDataAck, ConnectAck}
+use Rattle.accusing_segments.proofs.Prelude.{NoOperation, ConnectInitiate, ConnectConfirm, DisconnectInitiate, DisconnectConfirm, view}
+use Rattle.accusing_segments.proofs.Prelude.{segment_view, Nsp, Segment, Piece, REACH, wire, Passed, Own, Other, fits, has, bit, message_in}
+use Rattle.accusing_segments.proofs.Prelude.{end_sent, is_named, words_name, acknowledges, has_room, in_unit, said, by_other, History, history}
+use Rattle.accusing_segments.proofs.Prelude.{before, is_covered, is_acknowledged, is_first, is_next, is_right, is_wrong_message, is_wrong_in}
+use Rattle.accusing_segments.proofs.Prelude.{is_wrong_unit, is_in_room, is_long_message, is_long_in, is_long_unit, first_of, piece_in, calls}
+use Rattle.accusing_segments.proofs.Prelude.{first_noted, Sight, IsAfter, seen}
 use Rattle.dna_packet.specs.declared.nsp.Nsp.TheVariants as rust
-use Rattle.dna_packet.specs.declared.nsp.Segment.{Segment}
 use Rattle.dna_packet.specs.declared.nsp.DataAck.{DataAck as DataAckOf}
-use Rattle.dna_links.specs.Segmentation.{Piece}
-use Rattle.dna_links.specs.SegmentBook.{REACH, wire}
-use Rattle.accusing.specs.Placing.{Passed, Own, Other}
-use Rattle.accusing_segments.specs.Fits.{fits}
-use Rattle.accusing_segments.specs.History.{has, bit, message_in, end_sent, is_named, words_name, acknowledges, has_room, in_unit, said, by_other, History}
-use Rattle.accusing_segments.specs.History.{history}
-use Rattle.accusing_segments.specs.Wrong.{before, is_covered, is_acknowledged, is_first, is_next, is_right}
-use Rattle.accusing_segments.specs.Wrong.{is_wrong_message, is_wrong_in, is_wrong_unit, is_in_room, is_long_message, is_long_in, is_long_unit}
-use Rattle.accusing_segments.specs.Repeats.{first_of, piece_in, calls}
-use Rattle.accusing_segments.specs.Noted.{first_noted}
-use Rattle.accusing_segments.specs.Answers.{Sight, IsAfter}
-use Rattle.accusing_segments.specs.inner.Seen.{seen}
 use Rattle.accusing_segments.proofs.Passing.{own_more, own_same, other_more, other_same, other_stays}
 use Rattle.accusing_segments.proofs.NotedAfter.{covered_same, covered_less, first_more, first_same, twice_more, twice_same}
 

@@ -1,3 +1,5 @@
+-- the words that all other files share
+mod Prelude
 -- what a link has given was sent, and what it may send
 pub mod Gave
 pub mod Places

@@ -1,17 +1,8 @@
 -- Every row keeps it that what the links of a node have given in segments was sent, where none is sent and no acknowledgement comes.
-use Rattle.std.proofs.Common.{◌≡◌, ℕ, Option, Some}
-use Rattle.std.specs.Prelude.{slice_get}
-use Rattle.dna_links.specs.declared.queue.Queues.{Queues}
-use Rattle.dna_links.specs.Links.{LinkOf, LinkTruth, with_segments}
-use Rattle.dna_links.specs.Queues.{with_queue, further, drops}
-use Rattle.dna_links.specs.Table.{Ask, SendsSegment}
-use Rattle.dna_links.specs.WireSegments.{WireSegments, wire_segments}
-use Rattle.dna_links.specs.WireLinks.{WireLinks}
-use Rattle.accusing_links.proofs.Each.{each_at}
-use Rattle.accusing_links.proofs.Along.{OfRow}
-use Rattle.accusing_links.proofs.Rows.{IsKept, AreKept, settled_by, each_keeps}
-use Rattle.accusing_segments.proofs.Gave.{never, delivers_gave}
-use Rattle.accusing_segments.proofs.SegmentSends.{acks_sent}
+use Rattle.accusing_segments.proofs.Prelude.{◌≡◌, ℕ, Some, slice_get, Queues, LinkOf, LinkTruth, with_segments, with_queue, further, drops}
+use Rattle.accusing_segments.proofs.Prelude.{Ask, SendsSegment, WireSegments, wire_segments, WireLinks, each_at, OfRow, IsKept, AreKept, settled_by}
+use Rattle.accusing_segments.proofs.Prelude.{each_keeps}
+use Rattle.accusing_segments.proofs.{Gave.never, Gave.delivers_gave, SegmentSends.acks_sent}
 use Rattle.accusing_segments.proofs.RightLinks.{Links, IsLinkRight, blank_right, IsCalm, does_right, AreRight, dropped_right, forgotten_right}
 use Rattle.accusing_segments.proofs.RightLinks.{requeued_right}
 

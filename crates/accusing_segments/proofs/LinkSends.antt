@@ -1,27 +1,10 @@
 -- What is sent keeps it that what the links have given in segments was sent; and a segment that is sent may be.
-use Rattle.std.proofs.Common.{◌≡◌, ℕ, ◌<◌, Bool, true, false, Option, Some, None, List, [], ◌∷◌, ◌&&◌, refl, subst, not, inr}
-use Rattle.std.proofs.lemmas.Bool.{and_parts}
-use Rattle.dna_packet.specs.Nsp.{SegmentValue, NspValue, DataSegment, IsInRange}
-use Rattle.dna_links.specs.declared.port.Phase.{Phase}
-use Rattle.dna_links.specs.declared.port.Phase.TheVariants.{Running}
-use Rattle.dna_links.specs.declared.port.LinkTest.TheVariants.{TheLink}
-use Rattle.dna_links.specs.declared.queue.Queues.{Queues}
-use Rattle.dna_links.specs.declared.queue.Queues.TheVariants.{Without, With}
-use Rattle.dna_links.specs.declared.queue.Said.TheVariants.{OfRun}
-use Rattle.dna_links.specs.LookUps.{is_in}
-use Rattle.dna_links.specs.Links.{LinkOf, Carried, with_segments}
-use Rattle.dna_links.specs.Queues.{with_queue, may_send, is_over}
-use Rattle.dna_links.specs.Table.{Say, Keep, sending_row}
-use Rattle.dna_links.specs.WireSegments.{WireSegments, wire_segments}
-use Rattle.dna_links.specs.WireLinks.{WireLinks, wire_links_sent}
-use Rattle.dna_links.specs.LinkBook.{kept, of_none}
-use Rattle.dna_links.specs.Sending.{Sent}
-use Rattle.accusing_links.proofs.Answered.{Good}
-use Rattle.accusing_links.proofs.Each.{each_at}
-use Rattle.accusing_links.proofs.Finds.{IsInUse, HasBoth, the_link}
-use Rattle.accusing_links.proofs.Along.{SentBy, SendShows, sent_tells}
-use Rattle.accusing_links.proofs.Rows.{kept_each, IsCalmRow, calm_sends, sent_kept, always_sends}
-use Rattle.accusing_links.proofs.RightLinks.{is_early}
+use Rattle.accusing_segments.proofs.Prelude.{◌≡◌, ℕ, ◌<◌, Bool, true, false, [], ◌∷◌, refl, subst, not, inr}
+use Rattle.accusing_segments.proofs.Prelude.{and_parts, SegmentValue, NspValue, DataSegment, IsInRange, Phase, Running, TheLink, Queues, Without}
+use Rattle.accusing_segments.proofs.Prelude.{With, OfRun, is_in, LinkOf, Carried, with_segments, with_queue, may_send, is_over, Say, Keep}
+use Rattle.accusing_segments.proofs.Prelude.{sending_row, WireSegments, wire_segments, WireLinks, wire_links_sent, kept, of_none, Sent, Good}
+use Rattle.accusing_segments.proofs.Prelude.{each_at, IsInUse, HasBoth, the_link, SentBy, SendShows, sent_tells, kept_each, IsCalmRow, calm_sends}
+use Rattle.accusing_segments.proofs.Prelude.{sent_kept, always_sends, is_early}
 use Rattle.accusing_segments.proofs.Gave.{More, Gave}
 use Rattle.accusing_segments.proofs.SegmentSends.{IsFine, Gone, sent_left}
 use Rattle.accusing_segments.proofs.RightLinks.{Links, IsLinkRight, IsCalm, all_right, AreRight, right_more}

@@ -1,27 +1,11 @@
 -- What the user does and what comes keeps it that what the links of a node have given in segments was sent.
-use Rattle.std.proofs.Common.{◌≡◌, ℕ, true, false, Option, Some, None, refl, subst, ◌∙◌, ◌≤◌, inl, inr}
-use Rattle.dna_packet.specs.Nsp.{NspValue, DataSegment, DataAck, ConnectInitiate, ConnectConfirm, IsInRange}
-use Rattle.dna_links.specs.declared.port.Phase.{Phase}
-use Rattle.dna_links.specs.declared.port.Port.{Port}
-use Rattle.dna_links.specs.declared.port.Phase.TheVariants.{Calling, Called, Confirming, Running, Disconnecting, Ended}
-use Rattle.dna_links.specs.declared.port.LinkTest.TheVariants.{CallingAt, CalledBy, ActedOn}
-use Rattle.dna_links.specs.declared.queue.Queues.{Queues}
-use Rattle.dna_links.specs.declared.tag.LinkTag.{LinkTag}
-use Rattle.dna_links.specs.LookUps.{is_in}
-use Rattle.dna_links.specs.Links.{LinkOf, LinkTruth, Carried, with_segments}
-use Rattle.dna_links.specs.Queues.{goes_to}
-use Rattle.dna_links.specs.Table.{Row, user_row, arrival_row}
-use Rattle.dna_links.specs.User.{LinkEventValue, Open, Accept, Reject}
-use Rattle.dna_links.specs.WireSegments.{WireSegments, wire_segments, takes_segment, takes_acks}
-use Rattle.dna_links.specs.WireLinks.{WireLinks, wire_links_user, wire_links_arrived}
-use Rattle.dna_links.specs.LinkBook.{of_none}
-use Rattle.dna_links.specs.Arriving.{PartnerRule}
-use Rattle.accusing_links.proofs.Answered.{Good}
-use Rattle.accusing_links.proofs.Finds.{Found, acted_on, called_by, calling_at}
-use Rattle.accusing_links.proofs.Along.{RowShows}
-use Rattle.accusing_links.proofs.Rows.{IsCalmRow, calm_shows, user_kept, arrived_kept}
-use Rattle.accusing_links.proofs.RightLinks.{is_early}
-use Rattle.accusing_links.proofs.LinkSteps.{calling_early, called_early, in_run}
+use Rattle.accusing_segments.proofs.Prelude.{◌≡◌, ℕ, true, false, Some, refl, subst, ◌∙◌, ◌≤◌, inl, inr, NspValue, DataSegment}
+use Rattle.accusing_segments.proofs.Prelude.{DataAck, ConnectInitiate, ConnectConfirm, IsInRange, Phase, Port, Calling, Called, Confirming, Running}
+use Rattle.accusing_segments.proofs.Prelude.{Disconnecting, Ended, CallingAt, CalledBy, ActedOn, Queues, LinkTag, is_in, LinkOf, LinkTruth, Carried}
+use Rattle.accusing_segments.proofs.Prelude.{with_segments, goes_to, Row, user_row, arrival_row, LinkEventValue, Open, Accept, Reject, WireSegments}
+use Rattle.accusing_segments.proofs.Prelude.{wire_segments, takes_segment, takes_acks, WireLinks, wire_links_user, wire_links_arrived, of_none}
+use Rattle.accusing_segments.proofs.Prelude.{PartnerRule, Good, Found, acted_on, called_by, calling_at, RowShows, IsCalmRow, calm_shows, user_kept}
+use Rattle.accusing_segments.proofs.Prelude.{arrived_kept, is_early, calling_early, called_early, in_run}
 use Rattle.accusing_segments.proofs.Gave.{never, Gave, WordsPassed, empty_gave, acks_gave, segment_gave}
 use Rattle.accusing_segments.proofs.RightLinks.{Links, IsLinkRight, HasRoom, blank_right, none_gave, goes_right, IsCalm, AreRight}
 use Rattle.accusing_segments.proofs.LinkRows.{IsQuiet, Now, Are, there, keeps, all_keep}

@@ -1,38 +1,17 @@
 -- A node keeps it that what its links have given in segments was sent, and what its station holds; and a segment that it sends may be sent.
-use Rattle.std.proofs.Common.{◌≡◌, ℕ, Bool, true, false, cond, Option, Some, None, Result, Ok, Err, List, [], ◌∷◌, refl, ap, subst}
-use Rattle.ddcmp_msg.specs.Message.{MessageValue}
-use Rattle.capture_record.specs.declared.fate.Fate.{Fate}
-use Rattle.capture_record.specs.Fates.{is_met}
-use Rattle.capture_record.specs.declared.event.Event.{Event}
+use Rattle.accusing_segments.proofs.Prelude.{◌≡◌, ℕ, Bool, true, false, cond, Option, Some, None, Result, Ok, Err, List, [], ◌∷◌, refl, ap, subst}
+use Rattle.accusing_segments.proofs.Prelude.{MessageValue, Fate, is_met, Event, NspValue, DataSegment, LinkService, DataAck, OtherDataAck}
+use Rattle.accusing_segments.proofs.Prelude.{ConnectAck, NoOperation, ConnectInitiate, ConnectConfirm, DisconnectInitiate, DisconnectConfirm, Tag}
+use Rattle.accusing_segments.proofs.Prelude.{StepRefusal, LinkRefusal, ArrivalValue, body_of, WireStation, HeldPacket, gives_new, Queues, LinkTag}
+use Rattle.accusing_segments.proofs.Prelude.{Carried, LinkEventValue, Sent, WireSegments, WireLinks, wire_links_user, wire_links_sent}
+use Rattle.accusing_segments.proofs.Prelude.{wire_links_arrived, of_anyone, Rules, by_bytes_with, content, link_event, WireLayers, LayersTag}
+use Rattle.accusing_segments.proofs.Prelude.{with_wire_links, with_tag, with_wire_composed, to_wire_station, tag_or_none, wire_sends_first}
+use Rattle.accusing_segments.proofs.Prelude.{wire_sends_again, wire_sends_on, wire_keeps_packet, wire_keeps, wire_meets_on, wire_user_on}
+use Rattle.accusing_segments.proofs.Prelude.{wire_composes, content_in_range, machine, node_machine, Good, AreHeld, Carries, label_held}
+use Rattle.accusing_segments.proofs.Prelude.{arrives_held, user_held, sends_held}
 use Rattle.capture_record.specs.declared.event.Event.TheVariants as events
-use Rattle.dna_packet.specs.Nsp.{NspValue, DataSegment, LinkService, DataAck, OtherDataAck, ConnectAck, NoOperation, ConnectInitiate}
-use Rattle.dna_packet.specs.Nsp.{ConnectConfirm, DisconnectInitiate, DisconnectConfirm}
-use Rattle.dna_station.specs.declared.tag.Tag.{Tag}
-use Rattle.dna_station.specs.declared.refusal.StepRefusal.{StepRefusal}
-use Rattle.dna_station.specs.declared.link_refusal.LinkRefusal.{LinkRefusal}
-use Rattle.dna_station.specs.Book.{ArrivalValue, Sound, HeaderBad, DataBad, body_of}
-use Rattle.dna_station.specs.WireStation.{WireStation, HeldPacket}
-use Rattle.dna_station.specs.WireBook.{gives_new}
-use Rattle.dna_links.specs.declared.queue.Queues.{Queues}
-use Rattle.dna_links.specs.declared.tag.LinkTag.{LinkTag}
-use Rattle.dna_links.specs.Links.{Carried}
-use Rattle.dna_links.specs.User.{LinkEventValue}
-use Rattle.dna_links.specs.Sending.{Sent}
-use Rattle.dna_links.specs.WireSegments.{WireSegments}
-use Rattle.dna_links.specs.WireLinks.{WireLinks, wire_links_user, wire_links_sent, wire_links_arrived}
-use Rattle.dna_links.specs.Arriving.{of_anyone}
-use Rattle.dna_node.specs.TagRules.{Rules, by_bytes_with}
-use Rattle.dna_node.specs.Content.{content, link_event}
-use Rattle.dna_node.specs.WireLayers.{WireLayers, LayersTag, with_wire_links, with_tag, with_wire_composed, to_wire_station, tag_or_none}
-use Rattle.dna_node.specs.WireLayers.{wire_sends_first, wire_sends_again, wire_sends_on, wire_keeps_packet, wire_keeps, wire_meets_on}
-use Rattle.dna_node.specs.WireLayers.{wire_user_on, wire_composes}
-use Rattle.dna_node.proofs.ReadInRange.{content_in_range}
-use Rattle.accusing.specs.Placing.{machine}
-use Rattle.accusing_links.specs.Placing.{node_machine}
-use Rattle.accusing_links.proofs.Answered.{Good}
-use Rattle.accusing_links.proofs.Held.{AreHeld, Carries, label_held, arrives_held, user_held, sends_held}
-use Rattle.accusing_segments.proofs.Gave.{More, same_more}
-use Rattle.accusing_segments.proofs.SegmentSends.{fine_more}
+use Rattle.dna_station.specs.Book.{Sound, HeaderBad, DataBad}
+use Rattle.accusing_segments.proofs.{Gave.More, Gave.same_more, SegmentSends.fine_more}
 use Rattle.accusing_segments.proofs.RightLinks.{Links, AreRight, right_more}
 use Rattle.accusing_segments.proofs.LinkSteps.{HasCome, user_right, arrived_right}
 use Rattle.accusing_segments.proofs.LinkSends.{HasGone, SendsFine, sent_good}

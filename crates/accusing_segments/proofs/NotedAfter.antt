@@ -1,18 +1,11 @@
 -- Which pieces went first, and which calls passed, after one unit more; and what is noted of that accuses alike.
-use Rattle.std.proofs.Common.{◌≡◌, ℕ, zero, suc, ◌+◌, Bool, true, false, ◌&&◌, ◌||◌, not, Option, Some, None, List, [], ◌∷◌, ◌++◌}
-use Rattle.std.proofs.Common.{refl, sym, ap, ap₂, ◌∙◌, Result, Ok, Err, OnOk}
-use Rattle.dna_packet.specs.Nsp.{SegmentValue, NspValue, DataSegment, LinkService, DataAck, OtherDataAck, ConnectAck, NoOperation, ConnectInitiate}
-use Rattle.dna_packet.specs.Nsp.{ConnectConfirm, DisconnectInitiate, DisconnectConfirm}
-use Rattle.dna_links.specs.Segmentation.{Piece, piece_of}
-use Rattle.dna_links.specs.SegmentBook.{REACH, wire}
-use Rattle.accusing.specs.Placing.{Passed, Own, Other}
-use Rattle.accusing_segments.specs.History.{message_in, in_unit, by_other, History, history}
-use Rattle.accusing_segments.specs.Wrong.{is_covered}
-use Rattle.accusing_segments.specs.Repeats.{first_of, first_sent, piece_with, piece_in, calls, called_twice, Repeats, repeats, differs, is_one_link, is_changed}
-use Rattle.accusing_segments.specs.Repeats.{is_changed_in, is_changed_unit}
-use Rattle.accusing_segments.specs.Noted.{first_noted, shown}
-use Rattle.accusing_segments.specs.Answers.{Sight, IsAfter}
-use Rattle.accusing_segments.specs.inner.Seen.{seen}
+use Rattle.accusing_segments.proofs.Prelude.{◌≡◌, ℕ, zero, suc, ◌+◌, Bool, true, false, ◌&&◌, ◌||◌, not, Option, Some, None, List, [], ◌∷◌, ◌++◌}
+use Rattle.accusing_segments.proofs.Prelude.{refl, sym, ap, ap₂, ◌∙◌, Result, Ok, Err, OnOk, SegmentValue, NspValue, DataSegment, LinkService}
+use Rattle.accusing_segments.proofs.Prelude.{DataAck, OtherDataAck, ConnectAck, NoOperation, ConnectInitiate, ConnectConfirm, DisconnectInitiate}
+use Rattle.accusing_segments.proofs.Prelude.{DisconnectConfirm, Piece, piece_of, REACH, wire, Passed, Own, Other, message_in, in_unit, by_other}
+use Rattle.accusing_segments.proofs.Prelude.{History, history, is_covered, first_of, first_sent, piece_with, piece_in, calls, called_twice, Repeats}
+use Rattle.accusing_segments.proofs.Prelude.{repeats, differs, is_one_link, is_changed, is_changed_in, is_changed_unit, first_noted, shown, Sight}
+use Rattle.accusing_segments.proofs.Prelude.{IsAfter, seen}
 use Rattle.accusing_segments.proofs.Passing.{other_more}
 
 -- ---- what may be acknowledged

@@ -1,16 +1,8 @@
 -- What is kept of the pieces that went first, after one more was sent and after some were acknowledged.
-use Rattle.std.proofs.Common.{◌≡◌, ℕ, ◌<◌, ◌+◌, ◌-◌, ◌%◌, Bool, true, false, ◌&&◌, cond, eqb, Option, Some, None, is_some}
-use Rattle.std.proofs.Common.{refl, subst, ap, ap₂, ◌∙◌, arith, nat_cmp, eqb-true}
-use Rattle.std.specs.Ordering.{ordering_then}
-use Rattle.std.specs.BTreeMap.{BTreeMap, get, is_at, Updates}
-use Rattle.dna_links.specs.Segmentation.{Piece}
-use Rattle.dna_links.specs.SegmentBook.{REACH, wire}
-use Rattle.accusing_segments.specs.History.{Known, is_this}
-use Rattle.accusing_segments.specs.Wrong.{is_covered}
-use Rattle.accusing_segments.specs.Repeats.{first_of}
-use Rattle.accusing_segments.specs.Noted.{three_compared, first_noted}
-use Rattle.accusing_segments.proofs.Passing.{covered}
-use Rattle.accusing_segments.proofs.Sizes.{is_same, is_then}
+use Rattle.accusing_segments.proofs.Prelude.{◌≡◌, ℕ, ◌<◌, ◌+◌, ◌-◌, ◌%◌, Bool, true, false, ◌&&◌, cond, eqb, Option, Some, None, is_some, refl}
+use Rattle.accusing_segments.proofs.Prelude.{subst, ap, ap₂, ◌∙◌, arith, nat_cmp, eqb-true, ordering_then, BTreeMap, get, is_at, Updates, Piece}
+use Rattle.accusing_segments.proofs.Prelude.{REACH, wire, Known, is_this, is_covered, first_of, three_compared, first_noted}
+use Rattle.accusing_segments.proofs.{Passing.covered, Sizes.is_same, Sizes.is_then}
 
 and_assoc : (a b c : Bool) → ((a && b) && c) ≡ (a && (b && c))
 and_assoc true b c = refl

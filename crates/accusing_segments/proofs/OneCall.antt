@@ -1,25 +1,14 @@
 -- Where one CI or CC alone came by which links get these two addresses, one link alone can have them, and what was sent of it is outstanding as it
 -- was, or may be acknowledged; until it can send no segment any more.
-use Rattle.std.proofs.Common.{◌≡◌, ℕ, ◌≤◌, ◌+◌, Bool, true, false, ◌||◌, leb, Option, Some, None, length, refl, sym, ap}
-use Rattle.std.proofs.Common.{◌∙◌, ◌⊎◌, inl, inr, arith}
-use Rattle.std.proofs.lemmas.Bool.{leb-true, leb-false}
-use Rattle.dna_links.specs.declared.port.Phase.{Phase}
-use Rattle.dna_links.specs.declared.port.Phase.TheVariants.{Called, Running, Disconnecting, Ended}
-use Rattle.dna_links.specs.declared.port.Port.{Port}
-use Rattle.dna_links.specs.declared.queue.Queues.{Queues}
-use Rattle.dna_links.specs.declared.queue.Queues.TheVariants.{Without, With}
-use Rattle.dna_links.specs.declared.queue.Said.{Said}
-use Rattle.dna_links.specs.declared.queue.Said.TheVariants.{Nothing, OfRun, Disconnect}
-use Rattle.dna_links.specs.LookUps.{is_live, is_in}
-use Rattle.dna_links.specs.SegmentBook.{REACH}
-use Rattle.dna_links.specs.Links.{LinkOf, LinkTruth, with_segments}
-use Rattle.dna_links.specs.Queues.{is_over, has_waiting, keeps_numbers, further, goes_on, goes_to, ends_by_message, drops, requeued, lets_go, shows_by}
-use Rattle.dna_links.specs.Queues.{settled, booted_link, forgotten, with_queue, port_of_waiting, call_of, drops_segments}
-use Rattle.dna_links.specs.Table.{Effect, OpenHere, GiveAddress, Connect, GoTo, End, Drop, EndAll, Say, Settle, Keep, HandIn, TakeSegment, TakeAcks}
-use Rattle.dna_links.specs.WireSegments.{WireSegments, wire_segments, delivers}
+use Rattle.accusing_segments.proofs.Prelude.{◌≡◌, ℕ, ◌≤◌, ◌+◌, Bool, true, false, ◌||◌, leb, Option, Some, None, length, refl, sym, ap, ◌∙◌, ◌⊎◌}
+use Rattle.accusing_segments.proofs.Prelude.{inl, inr, arith, leb-true, leb-false, Phase, Called, Running, Disconnecting, Ended, Port, Queues}
+use Rattle.accusing_segments.proofs.Prelude.{Without, With, Said, Nothing, OfRun, Disconnect, is_live, is_in, REACH, LinkOf, LinkTruth}
+use Rattle.accusing_segments.proofs.Prelude.{with_segments, is_over, has_waiting, keeps_numbers, further, goes_on, goes_to, ends_by_message, drops}
+use Rattle.accusing_segments.proofs.Prelude.{requeued, lets_go, shows_by, settled, booted_link, forgotten, with_queue, port_of_waiting, call_of}
+use Rattle.accusing_segments.proofs.Prelude.{drops_segments, Effect, OpenHere, GiveAddress, Connect, GoTo, End, Drop, EndAll, Say, Settle, Keep}
+use Rattle.accusing_segments.proofs.Prelude.{HandIn, TakeSegment, TakeAcks, WireSegments, wire_segments, blank, does, dropped_port}
+use Rattle.accusing_segments.proofs.Prelude.{forgotten_port, ended_port, booted_port, goes_own, goes_far, goes_called}
 use Rattle.dna_links.specs.WireSegments as wire
-use Rattle.dna_links.specs.LinkBook.{blank, does}
-use Rattle.accusing_links.proofs.Ports.{dropped_port, forgotten_port, ended_port, booted_port, goes_own, goes_far, goes_called}
 use Rattle.accusing_segments.proofs.Gave.{Passings, never, Gave}
 use Rattle.accusing_segments.proofs.SentPieces.{Shown, Fits, delivers_fit, acks_sent_fit}
 use Rattle.accusing_segments.proofs.EachLink.{IsPlain, Stays}

@@ -1,37 +1,22 @@
 -- A side for which records exist sends under a number what it sent under it before, where one CI or CC alone passed by which a link gets its
 -- addresses, and nothing that was sent under the number may be acknowledged.
-use Rattle.std.proofs.Common.{◌≡◌, ℕ, ◌+◌, ◌≤◌, Bool, true, false, ◌&&◌, not, cond, eqb, Option, Some, None, List, [], ◌∷◌, ◌++◌}
-use Rattle.std.proofs.Common.{refl, sym, subst, ◌∙◌, ◌⊎◌, inl, inr, arith, append_assoc, eqb-true}
-use Rattle.std.proofs.lemmas.Bool.{and_parts, and_from}
-use Rattle.std.proofs.lemmas.Slice.Eq.{bytes_eq-Decides}
-use Rattle.ddcmp_msg.specs.Reading.{reading}
-use Rattle.capture_record.specs.declared.fate.Fate.TheVariants.{NotKept}
-use Rattle.capture_record.specs.declared.record.Record.{Record}
-use Rattle.dna_packet.specs.Nsp.{NspValue, SegmentValue, DataSegment, LinkService, DataAck, OtherDataAck, ConnectAck, NoOperation, ConnectInitiate}
-use Rattle.dna_packet.specs.Nsp.{ConnectConfirm, DisconnectInitiate, DisconnectConfirm}
-use Rattle.dna_station.specs.declared.head.Head.{Head}
-use Rattle.dna_links.specs.declared.queue.Queues.{Queues}
-use Rattle.dna_links.specs.Segmentation.{Piece, piece_of, alike, same_piece}
-use Rattle.dna_links.specs.SegmentBook.{REACH, wire}
-use Rattle.dna_node.specs.WireLayers.{WireLayers, new_wire_layers_node}
-use Rattle.accusing.specs.Placing.{Passed, Own, Other, IsPlacedFrom, Ends, Passes, Sends, Hears, HearsNoise, Acts}
-use Rattle.accusing_links.specs.Placing.{node_machine, IsNodePlacing}
+use Rattle.accusing_segments.proofs.Prelude.{◌≡◌, ℕ, ◌+◌, ◌≤◌, Bool, true, false, ◌&&◌, not, cond, eqb, Option, Some, None, List, [], ◌∷◌, ◌++◌}
+use Rattle.accusing_segments.proofs.Prelude.{refl, sym, subst, ◌∙◌, ◌⊎◌, inl, inr, arith, append_assoc, eqb-true, and_parts, and_from}
+use Rattle.accusing_segments.proofs.Prelude.{bytes_eq-Decides, reading, NotKept, Record, NspValue, SegmentValue, DataSegment, LinkService, DataAck}
+use Rattle.accusing_segments.proofs.Prelude.{OtherDataAck, ConnectAck, NoOperation, ConnectInitiate, ConnectConfirm, DisconnectInitiate}
+use Rattle.accusing_segments.proofs.Prelude.{DisconnectConfirm, Head, Queues, Piece, piece_of, alike, same_piece, REACH, wire, WireLayers}
+use Rattle.accusing_segments.proofs.Prelude.{new_wire_layers_node, Passed, Own, Other, IsPlacedFrom, Ends, Passes, Sends, Hears, HearsNoise, Acts}
+use Rattle.accusing_segments.proofs.Prelude.{node_machine, IsNodePlacing, acknowledges, message_in, history, is_covered, piece_in, first_of}
+use Rattle.accusing_segments.proofs.Prelude.{first_sent, repeats, differs, is_changed, is_one_link, is_changed_in, is_changed_unit}
 use Rattle.accusing_links.specs.Answers.{IsWrong as IsWrongAnyhow}
-use Rattle.accusing_segments.specs.History.{acknowledges, message_in, history}
-use Rattle.accusing_segments.specs.Wrong.{is_covered}
-use Rattle.accusing_segments.specs.Repeats.{piece_in, first_of, first_sent, repeats, differs, is_changed, is_one_link}
-use Rattle.accusing_segments.specs.Repeats.{is_changed_in, is_changed_unit}
-use Rattle.accusing_segments.proofs.SentPieces.{Covered, Shown}
-use Rattle.accusing_segments.proofs.RightLinks.{Links}
-use Rattle.accusing_segments.proofs.Nodes.{acts_right}
+use Rattle.accusing_segments.proofs.{SentPieces.Covered, SentPieces.Shown, RightLinks.Links, Nodes.acts_right, OneCallSends.IsOf}
+use Rattle.accusing_segments.proofs.{OneCallNodes.acts_mine, OneCallHears.damage_so, OneCallHears.hears_so}
 use Rattle.accusing_segments.proofs.Passing.{AsLinks, Came, other_same, covered}
 use Rattle.accusing_segments.proofs.Final.{rest_sent, comes_right, damage_right, AllCame, all_later, one_came, all_pushed, all_behind, first_right}
-use Rattle.accusing_segments.proofs.OneCallSends.{IsOf}
-use Rattle.accusing_segments.proofs.SentUnits.{InOption, SentIn, sent_stays, sent_now, is_call, one_more, passed_calls, coming_calls, calls_own, calls_other}
+use Rattle.accusing_segments.proofs.SentUnits.{InOption, SentIn, sent_stays, sent_now, is_call, one_more, passed_calls, coming_calls, calls_own}
+use Rattle.accusing_segments.proofs.SentUnits.{calls_other}
 use Rattle.accusing_segments.proofs.SentUnits.{coming_behind, two_calls}
 use Rattle.accusing_segments.proofs.OneCallSo.{Now, Agree, IsSo, AreTwo, passes_so, sends_so}
-use Rattle.accusing_segments.proofs.OneCallNodes.{acts_mine}
-use Rattle.accusing_segments.proofs.OneCallHears.{damage_so, hears_so}
 
 module _ (queues : Queues) (own far : ℕ) where
   abbrev Sent : List Passed → Shown
@@ -94,7 +79,8 @@ module _ (queues : Queues) (own far : ℕ) where
       go : IsInv before coming s → IsInv before rest after
       go (inl two) = inl two
       go (inr so) =
-          hears_so queues own far before coming s after so (comes_right true queues before s after tag fate unit bytes how behind.0 made so.right) rest unit behind.0
+          hears_so queues own far before coming s after so (comes_right true queues before s after tag fate unit bytes how behind.0 made so.right)
+          rest unit behind.0
           (subst (λ (x : List (List ℕ)). one_more queues own far (is_call queues own far unit) (coming_calls queues own far rest)
           ≤ coming_calls queues own far x) (sym are) (coming_behind queues own far lost unit rest)) tag fate bytes how made
   all_good (HearsNoise {s = s} {coming = coming} bytes damage tag after made later) before is came = all_good later before (go is) came
@@ -102,7 +88,8 @@ module _ (queues : Queues) (own far : ℕ) where
       go : IsInv before coming s → IsInv before coming after
       go (inl two) = inl two
       go (inr so) =
-          inr (damage_so queues own far before coming s after so (damage_right true queues before s after tag NotKept (reading bytes) damage made so.right) coming
+          inr (damage_so queues own far before coming s after so
+          (damage_right true queues before s after tag NotKept (reading bytes) damage made so.right) coming
           (omega arith) tag NotKept (reading bytes) damage made)
   all_good (Acts {s = s} {coming = coming} {records = records} event after made later) before is came = all_good later before (go is) came
     where

@@ -1,31 +1,13 @@
 -- The first CI or CC comes by which a link gets these addresses: from then on that link alone has them.
-use Rattle.std.proofs.Common.{◌≡◌, ℕ, true, ◌&&◌, eqb, Option, Some, None, List, [], ◌∷◌, length, refl, sym, ap, subst, ◌∙◌, ◌⊎◌, inl, inr}
-use Rattle.std.specs.Prelude.{slice_get}
-use Rattle.dna_packet.specs.Nsp.{NspValue, ConnectInitiate, ConnectConfirm}
-use Rattle.dna_station.specs.declared.link_refusal.LinkRefusal.TheVariants.{WrongNode}
-use Rattle.dna_links.specs.declared.port.Phase.{Phase}
-use Rattle.dna_links.specs.declared.port.Phase.TheVariants.{Calling, Called, Running}
-use Rattle.dna_links.specs.declared.queue.Queues.{Queues}
-use Rattle.dna_links.specs.declared.tag.LinkTag.{LinkTag}
-use Rattle.dna_links.specs.LookUps.{is_in}
-use Rattle.dna_links.specs.Links.{LinkOf, LinkTruth, Carried}
-use Rattle.dna_links.specs.Queues.{goes_to}
-use Rattle.dna_links.specs.Table.{Effect, Connect, GoTo, arrival_row}
-use Rattle.dna_links.specs.WireSegments.{WireSegments, wire_segments}
-use Rattle.dna_links.specs.WireLinks.{WireLinks, wire_links_arrived}
-use Rattle.dna_links.specs.LinkBook.{blank, does, after}
-use Rattle.dna_links.specs.Arriving.{PartnerRule}
-use Rattle.accusing_links.proofs.Answered.{Good, good_check}
-use Rattle.accusing_links.proofs.Each.{each_at}
-use Rattle.accusing_links.proofs.Finds.{in_live, calling_at}
-use Rattle.accusing_links.proofs.Along.{RowShows, comes_by_row}
-use Rattle.accusing_links.proofs.Ports.{goes_live}
-use Rattle.accusing_links.proofs.LinkSteps.{calling_early}
-use Rattle.accusing_segments.proofs.SentPieces.{Shown, Fits}
-use Rattle.accusing_segments.proofs.Places.{pushed_place}
+use Rattle.accusing_segments.proofs.Prelude.{◌≡◌, ℕ, true, ◌&&◌, eqb, Option, Some, None, List, [], ◌∷◌, length, refl, sym, ap, subst, ◌∙◌, ◌⊎◌}
+use Rattle.accusing_segments.proofs.Prelude.{inl, inr, slice_get, NspValue, ConnectInitiate, ConnectConfirm, WrongNode, Phase, Calling, Called}
+use Rattle.accusing_segments.proofs.Prelude.{Running, Queues, LinkTag, is_in, LinkOf, LinkTruth, Carried, goes_to, Effect, Connect, GoTo}
+use Rattle.accusing_segments.proofs.Prelude.{arrival_row, WireSegments, wire_segments, WireLinks, wire_links_arrived, blank, does, after}
+use Rattle.accusing_segments.proofs.Prelude.{PartnerRule, Good, good_check, each_at, in_live, calling_at, RowShows, comes_by_row, goes_live}
+use Rattle.accusing_segments.proofs.Prelude.{calling_early}
+use Rattle.accusing_segments.proofs.{SentPieces.Shown, SentPieces.Fits, Places.pushed_place, EachLink.IsAt, EachLink.after_stays, OneCall.IsMine}
+use Rattle.accusing_segments.proofs.{OneCall.stays}
 use Rattle.accusing_segments.proofs.RightLinks.{Links, IsLinkRight, AreRight}
-use Rattle.accusing_segments.proofs.EachLink.{IsAt, after_stays}
-use Rattle.accusing_segments.proofs.OneCall.{IsMine, stays}
 use Rattle.accusing_segments.proofs.OneCallSteps.{IsCall, AllMine, from_none, nothing_sent}
 
 module _ (queues : Queues) (own far : ℕ) (S : Shown) (Qs : Links) where

@@ -1,37 +1,17 @@
 -- What comes keeps it that one link alone has these addresses, until a second call came.
-use Rattle.std.proofs.Common.{◌≡◌, ℕ, ◌+◌, ◌≤◌, Bool, true, false, eqb, Option, Some, None, Ok, List}
-use Rattle.std.proofs.Common.{refl, sym, subst, ap, ◌∙◌, ◌⊎◌, inl, inr, arith, eqb-true}
-use Rattle.std.proofs.lemmas.Bool.{or_left, or_right, eq-eqb}
-use Rattle.ddcmp_msg.specs.Message.{MessageValue}
-use Rattle.ddcmp_msg.specs.Reading.{ReadingValue, reading, Sound, HeaderBad, DataBad, Malformed}
-use Rattle.capture_record.specs.declared.fate.Fate.{Fate}
-use Rattle.dna_packet.specs.Nsp.{NspValue, DataSegment, LinkService, DataAck, OtherDataAck, ConnectAck, NoOperation, ConnectInitiate}
-use Rattle.dna_packet.specs.Nsp.{ConnectConfirm, DisconnectInitiate, DisconnectConfirm}
-use Rattle.dna_station.specs.Book.{body_of}
+use Rattle.accusing_segments.proofs.Prelude.{◌≡◌, ℕ, ◌+◌, ◌≤◌, Bool, true, false, eqb, Option, Some, None, Ok, List, refl, sym, subst, ap, ◌∙◌, ◌⊎◌}
+use Rattle.accusing_segments.proofs.Prelude.{inl, inr, arith, eqb-true, or_left, or_right, eq-eqb, MessageValue, ReadingValue, reading, Sound}
+use Rattle.accusing_segments.proofs.Prelude.{HeaderBad, DataBad, Malformed, Fate, NspValue, DataSegment, LinkService, DataAck, OtherDataAck}
+use Rattle.accusing_segments.proofs.Prelude.{ConnectAck, NoOperation, ConnectInitiate, ConnectConfirm, DisconnectInitiate, DisconnectConfirm}
+use Rattle.accusing_segments.proofs.Prelude.{body_of, Queues, LinkTag, Carried, of_anyone, WireLinks, wire_links_arrived, content, WireLayers}
+use Rattle.accusing_segments.proofs.Prelude.{LayersTag, content_in_range, Passed, IsDamage, comes, node_machine, Good, AreHeld, in_unit, calls}
 use Rattle.dna_station.specs.Book as arrival
-use Rattle.dna_links.specs.declared.queue.Queues.{Queues}
-use Rattle.dna_links.specs.declared.tag.LinkTag.{LinkTag}
-use Rattle.dna_links.specs.Links.{Carried}
-use Rattle.dna_links.specs.Arriving.{of_anyone}
-use Rattle.dna_links.specs.WireLinks.{WireLinks, wire_links_arrived}
-use Rattle.dna_node.specs.Content.{content}
-use Rattle.dna_node.specs.WireLayers.{WireLayers, LayersTag}
-use Rattle.dna_node.proofs.ReadInRange.{content_in_range}
-use Rattle.accusing.specs.Placing.{Passed, IsDamage, comes}
-use Rattle.accusing_links.specs.Placing.{node_machine}
-use Rattle.accusing_links.proofs.Answered.{Good}
-use Rattle.accusing_links.proofs.Held.{AreHeld}
-use Rattle.accusing_segments.specs.History.{in_unit}
-use Rattle.accusing_segments.specs.Repeats.{calls}
-use Rattle.accusing_segments.proofs.SentPieces.{Shown}
-use Rattle.accusing_segments.proofs.RightLinks.{Links}
-use Rattle.accusing_segments.proofs.Nodes.{IsRight, In}
+use Rattle.accusing_segments.proofs.{SentPieces.Shown, RightLinks.Links, Nodes.IsRight, Nodes.In, OneCallFirst.call_arrived, OneCallNodes.WasSent}
+use Rattle.accusing_segments.proofs.{OneCallNodes.arrives_mine}
 use Rattle.accusing_segments.proofs.Passing.{come_now, Came, in_unit_is, this_is}
 use Rattle.accusing_segments.proofs.OneCallSteps.{IsCall, AllMine, other_arrived}
-use Rattle.accusing_segments.proofs.OneCallFirst.{call_arrived}
 use Rattle.accusing_segments.proofs.SentUnits.{SentIn, is_call, one_more, passed_calls, coming_calls}
 use Rattle.accusing_segments.proofs.OneCallSo.{Now, has, IsSo, AreTwo}
-use Rattle.accusing_segments.proofs.OneCallNodes.{WasSent, arrives_mine}
 
 module _ (queues : Queues) (own far : ℕ) where
   abbrev Sent : List Passed → Shown
@@ -179,7 +159,8 @@ module _ (queues : Queues) (own far : ℕ) where
                 (λ call. let yes = is_call_of unit m packet read there call in absurd cc))
                 is.held.held))
             go true e None f =
-                some_one (subst (λ (b : Bool). one_more queues own far b (coming_calls queues own far later) ≤ coming_calls queues own far coming) e fewer)
+                some_one (subst (λ (b : Bool). one_more queues own far b (coming_calls queues own far later) ≤ coming_calls queues own far coming) e
+                fewer)
                 f
                 (arrives_mine queues own far (Sent before) (At before) SomeOne s (is.one, is.held.links) after
                 (arrival.Sound m tag) fate made (any_good f) is.held.held)

@@ -1,45 +1,19 @@
 -- A node keeps it that one link alone has these addresses, and its station that what it holds was sent.
-use Rattle.std.proofs.Common.{◌≡◌, ℕ, Bool, true, false, cond, Option, Some, None, Result, Ok, Err, List, refl, sym, subst}
-use Rattle.std.proofs.Common.{◌⊎◌, inl, inr}
-use Rattle.ddcmp_msg.specs.Message.{MessageValue, Data, Ack, Nak, Rep, Strt, Stack}
-use Rattle.capture_record.specs.declared.fate.Fate.{Fate}
-use Rattle.capture_record.specs.Fates.{is_met}
-use Rattle.capture_record.specs.declared.event.Event.{Event}
+use Rattle.accusing_segments.proofs.Prelude.{◌≡◌, ℕ, Bool, true, false, cond, Option, Some, None, Result, Ok, Err, List, refl, sym, subst, ◌⊎◌, inl}
+use Rattle.accusing_segments.proofs.Prelude.{inr, MessageValue, Data, Ack, Nak, Rep, Strt, Stack, Fate, is_met, Event, NspValue, SegmentValue}
+use Rattle.accusing_segments.proofs.Prelude.{DataSegment, LinkService, DataAck, OtherDataAck, ConnectAck, NoOperation, ConnectInitiate}
+use Rattle.accusing_segments.proofs.Prelude.{ConnectConfirm, DisconnectInitiate, DisconnectConfirm, Tag, StepRefusal, LinkRefusal, ArrivalValue}
+use Rattle.accusing_segments.proofs.Prelude.{body_of, WireStation, HeldPacket, gives_new, Queues, LinkTag, Carried, Piece, piece_of, LinkEventValue}
+use Rattle.accusing_segments.proofs.Prelude.{Sent, WireSegments, WireLinks, wire_links_user, wire_links_sent, wire_links_arrived, of_anyone, Rules}
+use Rattle.accusing_segments.proofs.Prelude.{by_bytes_with, content, link_event, WireLayers, LayersTag, with_wire_links, with_tag}
+use Rattle.accusing_segments.proofs.Prelude.{with_wire_composed, to_wire_station, tag_or_none, wire_sends_first, wire_sends_again, wire_sends_on}
+use Rattle.accusing_segments.proofs.Prelude.{wire_keeps_packet, wire_keeps, wire_meets_on, wire_user_on, wire_composes, content_in_range, machine}
+use Rattle.accusing_segments.proofs.Prelude.{node_machine, Good, AreHeld, Carries, label_held, arrives_held, user_held, sends_held}
 use Rattle.capture_record.specs.declared.event.Event.TheVariants as events
-use Rattle.dna_packet.specs.Nsp.{NspValue, SegmentValue, DataSegment, LinkService, DataAck, OtherDataAck, ConnectAck, NoOperation, ConnectInitiate}
-use Rattle.dna_packet.specs.Nsp.{ConnectConfirm, DisconnectInitiate, DisconnectConfirm}
-use Rattle.dna_station.specs.declared.tag.Tag.{Tag}
-use Rattle.dna_station.specs.declared.refusal.StepRefusal.{StepRefusal}
-use Rattle.dna_station.specs.declared.link_refusal.LinkRefusal.{LinkRefusal}
-use Rattle.dna_station.specs.Book.{ArrivalValue, Sound, HeaderBad, DataBad, body_of}
-use Rattle.dna_station.specs.WireStation.{WireStation, HeldPacket}
-use Rattle.dna_station.specs.WireBook.{gives_new}
-use Rattle.dna_links.specs.declared.queue.Queues.{Queues}
-use Rattle.dna_links.specs.declared.tag.LinkTag.{LinkTag}
-use Rattle.dna_links.specs.Links.{Carried}
-use Rattle.dna_links.specs.Segmentation.{Piece, piece_of}
-use Rattle.dna_links.specs.User.{LinkEventValue}
-use Rattle.dna_links.specs.Sending.{Sent}
-use Rattle.dna_links.specs.WireSegments.{WireSegments}
-use Rattle.dna_links.specs.WireLinks.{WireLinks, wire_links_user, wire_links_sent, wire_links_arrived}
-use Rattle.dna_links.specs.Arriving.{of_anyone}
-use Rattle.dna_node.specs.TagRules.{Rules, by_bytes_with}
-use Rattle.dna_node.specs.Content.{content, link_event}
-use Rattle.dna_node.specs.WireLayers.{WireLayers, LayersTag, with_wire_links, with_tag, with_wire_composed, to_wire_station, tag_or_none}
-use Rattle.dna_node.specs.WireLayers.{wire_sends_first, wire_sends_again, wire_sends_on, wire_keeps_packet, wire_keeps, wire_meets_on}
-use Rattle.dna_node.specs.WireLayers.{wire_user_on, wire_composes}
-use Rattle.dna_node.proofs.ReadInRange.{content_in_range}
-use Rattle.accusing.specs.Placing.{machine}
-use Rattle.accusing_links.specs.Placing.{node_machine}
-use Rattle.accusing_links.proofs.Answered.{Good}
-use Rattle.accusing_links.proofs.Held.{AreHeld, Carries, label_held, arrives_held, user_held, sends_held}
-use Rattle.accusing_segments.proofs.SegmentSends.{Gone}
-use Rattle.accusing_segments.proofs.SentPieces.{Shown, Covered}
-use Rattle.accusing_segments.proofs.RightLinks.{Links, AreRight}
+use Rattle.dna_station.specs.Book.{Sound, HeaderBad, DataBad}
+use Rattle.accusing_segments.proofs.{SegmentSends.Gone, SentPieces.Shown, SentPieces.Covered, RightLinks.Links, RightLinks.AreRight, EachLink.All}
+use Rattle.accusing_segments.proofs.{OneCall.IsMine, OneCallSteps.AllMine, OneCallSteps.user_mine}
 use Rattle.accusing_segments.proofs.Nodes.{Of, In, of_more, held_more, ok_first, ok_is}
-use Rattle.accusing_segments.proofs.EachLink.{All}
-use Rattle.accusing_segments.proofs.OneCall.{IsMine}
-use Rattle.accusing_segments.proofs.OneCallSteps.{AllMine, user_mine}
 use Rattle.accusing_segments.proofs.OneCallSends.{IsOf, IsAgreed, mine_less, mine_sent}
 
 module _ (queues : Queues) (own far : ℕ) where

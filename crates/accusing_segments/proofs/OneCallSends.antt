@@ -1,42 +1,19 @@
 -- What is sent keeps it that one link alone has these addresses; and a segment of it agrees with what was sent under its number, or may be
 -- acknowledged.
-use Rattle.std.proofs.Common.{◌≡◌, ℕ, ◌<◌, Bool, true, false, ◌&&◌, eqb, Option, Some, None, List, [], ◌∷◌, refl, sym, subst, ap, ◌∙◌, not}
-use Rattle.std.proofs.Common.{eqb-true, fold, ◌⊎◌, inl, inr}
-use Rattle.std.specs.Prelude.{slice_get, slice_set}
-use Rattle.std.proofs.lemmas.Bool.{and_parts, and_from, eq-eqb}
-use Rattle.dna_packet.specs.Nsp.{SegmentValue, NspValue, DataSegment, DisconnectConfirm, IsInRange}
-use Rattle.dna_links.specs.declared.port.Phase.{Phase}
-use Rattle.dna_links.specs.declared.port.Phase.TheVariants.{Called, Running}
-use Rattle.dna_links.specs.declared.port.LinkTest.TheVariants.{TheLink}
-use Rattle.dna_links.specs.declared.queue.Queues.{Queues}
-use Rattle.dna_links.specs.declared.queue.Queues.TheVariants.{Without, With}
-use Rattle.dna_links.specs.declared.queue.Said.TheVariants.{OfRun}
-use Rattle.dna_links.specs.LookUps.{is_live, is_in, has_both}
-use Rattle.dna_links.specs.Links.{LinkOf, Carried, with_segments}
-use Rattle.dna_links.specs.Queues.{with_queue, may_send, is_over, port_of_waiting}
-use Rattle.dna_links.specs.Segmentation.{Piece, piece_of}
-use Rattle.dna_links.specs.Table.{Effect, Say, Keep, sending_row}
-use Rattle.dna_links.specs.WireSegments.{WireSegments, wire_segments}
-use Rattle.dna_links.specs.WireLinks.{WireLinks, wire_links_sent}
-use Rattle.dna_links.specs.LinkBook.{blank, kept, after, of_none, does}
-use Rattle.dna_links.specs.Sending.{Sent}
-use Rattle.accusing_links.proofs.Answered.{Good}
-use Rattle.accusing_links.proofs.Each.{each_at}
-use Rattle.accusing_links.proofs.Finds.{IsInUse, HasBoth, in_live, the_link, called_by}
-use Rattle.accusing_links.proofs.Along.{OfRow, SentBy, SendShows, lasting_sends, sent_good, sent_tells}
-use Rattle.accusing_links.proofs.Rows.{calm_sends, always_sends}
-use Rattle.accusing_links.proofs.RightLinks.{is_early}
-use Rattle.accusing_segments.proofs.Gave.{Gave}
-use Rattle.accusing_segments.proofs.Places.{set_place}
-use Rattle.accusing_segments.proofs.SegmentSends.{Gone}
+use Rattle.accusing_segments.proofs.Prelude.{◌≡◌, ℕ, ◌<◌, Bool, true, false, ◌&&◌, eqb, Option, Some, None, List, [], ◌∷◌, refl, sym, subst, ap}
+use Rattle.accusing_segments.proofs.Prelude.{◌∙◌, not, eqb-true, fold, ◌⊎◌, inl, inr, slice_get, slice_set, and_parts, and_from, eq-eqb}
+use Rattle.accusing_segments.proofs.Prelude.{SegmentValue, NspValue, DataSegment, DisconnectConfirm, IsInRange, Phase, Called, Running, TheLink}
+use Rattle.accusing_segments.proofs.Prelude.{Queues, Without, With, OfRun, is_live, is_in, has_both, LinkOf, Carried, with_segments, with_queue}
+use Rattle.accusing_segments.proofs.Prelude.{may_send, is_over, port_of_waiting, Piece, piece_of, Effect, Say, Keep, sending_row, WireSegments}
+use Rattle.accusing_segments.proofs.Prelude.{wire_segments, WireLinks, wire_links_sent, blank, kept, after, of_none, does, Sent, Good, each_at}
+use Rattle.accusing_segments.proofs.Prelude.{IsInUse, HasBoth, in_live, the_link, called_by, OfRow, SentBy, SendShows, lasting_sends, sent_good}
+use Rattle.accusing_segments.proofs.Prelude.{sent_tells, calm_sends, always_sends, is_early}
+use Rattle.accusing_segments.proofs.{Gave.Gave, Places.set_place, SegmentSends.Gone, SentAgain.Agrees, SentAgain.sent_kept, LinkRows.IsQuiet}
+use Rattle.accusing_segments.proofs.{LinkSends.turn_late, Used.found_used, Used.late_not_called}
 use Rattle.accusing_segments.proofs.SentPieces.{Shown, Covered, Fits}
-use Rattle.accusing_segments.proofs.SentAgain.{Agrees, sent_kept}
 use Rattle.accusing_segments.proofs.RightLinks.{Links, IsLinkRight, AreRight}
-use Rattle.accusing_segments.proofs.LinkRows.{IsQuiet}
-use Rattle.accusing_segments.proofs.LinkSends.{turn_late}
 use Rattle.accusing_segments.proofs.EachLink.{IsPlain, ArePlain, IsAt, All, all_done, keeps, after_stays}
 use Rattle.accusing_segments.proofs.OneCall.{IsUsed, used_live, IsDead, IsMine, none_mine, dropped_mine, stays}
-use Rattle.accusing_segments.proofs.Used.{found_used, late_not_called}
 
 -- this message is such a segment
 abbrev pub IsOf : (own far : ℕ) → NspValue → Shown

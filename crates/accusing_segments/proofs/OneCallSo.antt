@@ -1,24 +1,12 @@
 -- While units pass: one link alone has these addresses where one call passed, and what was sent of it under a number is one piece, or may be
 -- acknowledged.
-use Rattle.std.proofs.Common.{◌≡◌, ℕ, ◌+◌, ◌≤◌, Bool, true, false, Option, Some, None, Ok, List, [], ◌∷◌, ◌++◌}
-use Rattle.std.proofs.Common.{sym, subst, ◌⊎◌, inl, inr, arith}
-use Rattle.ddcmp_msg.specs.Message.{MessageValue}
-use Rattle.ddcmp_msg.specs.Reading.{reading, Sound}
-use Rattle.dna_packet.specs.Nsp.{NspValue}
-use Rattle.dna_station.specs.Book.{body_of}
-use Rattle.dna_links.specs.declared.queue.Queues.{Queues}
-use Rattle.dna_links.specs.Links.{Carried}
-use Rattle.dna_links.specs.Segmentation.{Piece}
-use Rattle.dna_node.specs.Content.{content}
-use Rattle.dna_node.specs.WireLayers.{WireLayers, LayersTag}
-use Rattle.accusing.specs.Placing.{Passed, Own, Other}
-use Rattle.accusing_links.specs.Placing.{node_machine}
-use Rattle.accusing_segments.specs.History.{message_in}
-use Rattle.accusing_segments.proofs.RightLinks.{Links}
+use Rattle.accusing_segments.proofs.Prelude.{◌≡◌, ℕ, ◌+◌, ◌≤◌, Bool, true, false, Option, Some, None, Ok, List, [], ◌∷◌, ◌++◌, sym, subst, ◌⊎◌, inl}
+use Rattle.accusing_segments.proofs.Prelude.{inr, arith, MessageValue, reading, Sound, NspValue, body_of, Queues, Carried, Piece, content}
+use Rattle.accusing_segments.proofs.Prelude.{WireLayers, LayersTag, Passed, Own, Other, node_machine, message_in}
+use Rattle.accusing_segments.proofs.{RightLinks.Links, OneCall.IsDead}
 use Rattle.accusing_segments.proofs.SentPieces.{Shown, Covered, Fits, covered_more, fits_more}
 use Rattle.accusing_segments.proofs.Nodes.{IsRight, In, of_more, held_more, sends_right, right_later}
 use Rattle.accusing_segments.proofs.Passing.{AsLinks, passed_more, gone_now, covered}
-use Rattle.accusing_segments.proofs.OneCall.{IsDead}
 use Rattle.accusing_segments.proofs.OneCallNodes.{WasSent, InMessage, IsHeld, Agreed, was_more, sends_mine}
 use Rattle.accusing_segments.proofs.SentUnits.{InOption, InUnit, SentIn, sent_stays, sent_now, sent_before, sent_same, to_message, message_is}
 use Rattle.accusing_segments.proofs.SentUnits.{gone_sent, once_in, is_call, one_more, passed_calls, coming_calls, calls_own, calls_other}
@@ -96,7 +84,8 @@ module _ (queues : Queues) (own far : ℕ) where
       go n p q (inr covered) = inr (covered_more _ _ (words_more before (Other unit)) n covered)
 
       more : (b : Bool) → coming_calls queues own far (coming ++ unit ∷ []) ≡ one_more queues own far b (coming_calls queues own far coming) →
-          passed_calls queues own far (before ++ Other unit ∷ []) ≡ one_more queues own far b (passed_calls queues own far before) → coming_calls queues own far coming + has is.one ≤ passed_calls queues own far before →
+          passed_calls queues own far (before ++ Other unit ∷ []) ≡ one_more queues own far b (passed_calls queues own far before) →
+          coming_calls queues own far coming + has is.one ≤ passed_calls queues own far before →
           coming_calls queues own far (coming ++ unit ∷ []) + has is.one ≤ passed_calls queues own far (before ++ Other unit ∷ [])
       more true a b l = omega (arith, a, b, l)
       more false a b l = omega (arith, a, b, l)
@@ -117,12 +106,14 @@ module _ (queues : Queues) (own far : ℕ) where
 
     gone : (packet : Carried) → content (body_of m) ≡ Ok (Some packet) → WasSent queues own far (Sent then_passed) packet.message
     gone packet there = gone_sent queues own far (Sent then_passed) packet.message (λ n p this.
-        sent_now queues own far before unit n p (subst (λ (o : Option NspValue). InOption queues own far o n p) (sym (message_is queues own far unit m packet read there)) this))
+        sent_now queues own far before unit n p
+        (subst (λ (o : Option NspValue). InOption queues own far o n p) (sym (message_is queues own far unit m packet read there)) this))
 
     all : IsHeld queues own far (Sent then_passed) (Now before) is.one after
         × ((n : ℕ) (p : Piece) → InMessage queues own far m n p →
         Sent before n p ⊎ Agreed queues own far (Sent before) (Now before) is.one n p)
-    all = sends_mine queues own far (Sent before) (Sent then_passed) (Now before) is.one (λ m. tt) (sent_stays queues own far before (Own unit)) m grows gone
+    all = sends_mine queues own far (Sent before) (Sent then_passed) (Now before) is.one (λ m. tt) (sent_stays queues own far before (Own unit)) m
+        grows gone
         s after known made is.right.links is.held
 
     abbrev Says : ℕ → Piece → Type 0
@@ -147,7 +138,8 @@ module _ (queues : Queues) (own far : ℕ) where
     agree_then : Agree then_passed
     agree_then n p q one two = later n p q (go (sent_before queues own far before unit n p one) (sent_before queues own far before unit n q two))
       where
-        go : Sent before n p ⊎ InUnit queues own far unit n p → Sent before n q ⊎ InUnit queues own far unit n q → (p ≡ q) ⊎ Covered (Now before own far).word n
+        go : Sent before n p ⊎ InUnit queues own far unit n p → Sent before n q ⊎ InUnit queues own far unit n q →
+            (p ≡ q) ⊎ Covered (Now before own far).word n
         go (inl a) (inl b) = is.agree n p q a b
         go (inl a) (inr b) = old_new n p q a (says n q b)
         go (inr a) (inl b) = turned n q p (old_new n q p b (says n p a))

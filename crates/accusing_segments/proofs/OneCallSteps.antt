@@ -1,36 +1,18 @@
 -- What the user does and what comes keeps it that one link alone has these addresses; a CI or a CC by which one gets them is the first.
-use Rattle.std.proofs.Common.{◌≡◌, ℕ, true, false, ◌&&◌, Option, Some, None, List, refl, sym, ap, subst, ◌∙◌, ◌⊎◌, inl, inr}
-use Rattle.std.specs.Prelude.{slice_get}
-use Rattle.std.proofs.lemmas.Bool.{and_parts}
-use Rattle.dna_packet.specs.Nsp.{NspValue, DataSegment, LinkService, DataAck, OtherDataAck, ConnectInitiate}
-use Rattle.dna_packet.specs.Nsp.{ConnectConfirm, DisconnectInitiate, DisconnectConfirm, IsInRange}
-use Rattle.dna_links.specs.declared.port.Phase.{Phase}
-use Rattle.dna_links.specs.declared.port.Phase.TheVariants.{Calling, Called, Confirming, Running, Disconnecting}
-use Rattle.dna_links.specs.declared.port.LinkTest.TheVariants.{TheLink, LiveAt, CallingAt, CalledBy}
-use Rattle.dna_links.specs.declared.queue.Queues.{Queues}
-use Rattle.dna_links.specs.declared.tag.LinkTag.{LinkTag}
-use Rattle.dna_links.specs.LookUps.{is_live, is_in, is_connected, is_at}
-use Rattle.dna_links.specs.Links.{LinkOf, LinkTruth, Carried, with_segments}
-use Rattle.dna_links.specs.Queues.{goes_to, ends_by_message}
-use Rattle.dna_links.specs.Table.{Row, user_row, arrival_row}
-use Rattle.dna_links.specs.User.{LinkEventValue, Open, Accept, Reject, Close, Abort}
-use Rattle.dna_links.specs.WireSegments.{WireSegments, wire_segments, takes_segment, takes_acks}
-use Rattle.dna_links.specs.WireLinks.{WireLinks, wire_links_user, wire_links_arrived}
-use Rattle.dna_links.specs.LinkBook.{blank, of_none}
-use Rattle.dna_links.specs.Arriving.{PartnerRule}
-use Rattle.accusing_links.proofs.Answered.{Good}
-use Rattle.accusing_links.proofs.Each.{each_at}
-use Rattle.accusing_links.proofs.Finds.{Found, IsInUse, either_there, in_live, connected_live, acted_on, called_by, calling_at, ends_live}
-use Rattle.accusing_links.proofs.Along.{RowShows}
-use Rattle.accusing_links.proofs.Rows.{IsCalmRow, calm_shows, user_kept, arrived_kept}
-use Rattle.accusing_links.proofs.RightLinks.{is_early}
-use Rattle.accusing_links.proofs.Ports.{goes_own, goes_far, goes_live}
-use Rattle.accusing_links.proofs.LinkSteps.{called_early}
-use Rattle.accusing_segments.proofs.Gave.{Gave}
+use Rattle.accusing_segments.proofs.Prelude.{◌≡◌, ℕ, true, false, Option, Some, None, List, refl, sym, ap, subst, ◌∙◌, ◌⊎◌, inl, inr}
+use Rattle.accusing_segments.proofs.Prelude.{slice_get, and_parts, NspValue, DataSegment, LinkService, DataAck, OtherDataAck, ConnectInitiate}
+use Rattle.accusing_segments.proofs.Prelude.{ConnectConfirm, DisconnectInitiate, DisconnectConfirm, IsInRange, Phase, Calling, Called, Confirming}
+use Rattle.accusing_segments.proofs.Prelude.{Running, Disconnecting, TheLink, LiveAt, CallingAt, Queues, LinkTag, is_live, is_in}
+use Rattle.accusing_segments.proofs.Prelude.{is_connected, LinkOf, LinkTruth, Carried, with_segments, goes_to, ends_by_message, Row, user_row}
+use Rattle.accusing_segments.proofs.Prelude.{arrival_row, LinkEventValue, Open, Accept, Reject, Close, Abort, WireSegments, wire_segments}
+use Rattle.accusing_segments.proofs.Prelude.{takes_segment, takes_acks, WireLinks, wire_links_user, wire_links_arrived, blank, of_none, PartnerRule}
+use Rattle.accusing_segments.proofs.Prelude.{Good, each_at, Found, IsInUse, either_there, in_live, connected_live, acted_on, called_by, calling_at}
+use Rattle.accusing_segments.proofs.Prelude.{ends_live, RowShows, IsCalmRow, calm_shows, user_kept, arrived_kept, is_early, goes_own, goes_far}
+use Rattle.accusing_segments.proofs.Prelude.{goes_live, called_early}
+use Rattle.dna_links.specs.LookUps.{is_at}
+use Rattle.accusing_segments.proofs.{Gave.Gave, LinkRows.IsQuiet, LinkSteps.HasCome}
 use Rattle.accusing_segments.proofs.SentPieces.{Shown, Fits, acks_fit, segment_fits}
 use Rattle.accusing_segments.proofs.RightLinks.{Links, IsLinkRight, goes_right, AreRight}
-use Rattle.accusing_segments.proofs.LinkRows.{IsQuiet}
-use Rattle.accusing_segments.proofs.LinkSteps.{HasCome}
 use Rattle.accusing_segments.proofs.EachLink.{IsPlain, IsAt, All, keeps, all_keep}
 use Rattle.accusing_segments.proofs.OneCall.{used_live, IsDead, fresh_small, IsMine, none_mine, stays}
 use Rattle.accusing_segments.proofs.OneCall.{goes_mine, ended_mine, dropped_mine}

@@ -1,29 +1,16 @@
 -- What passed stays so; and what is in a unit that passes is known then.
-use Rattle.std.proofs.Common.{◌≡◌, ℕ, zero, suc, ◌+◌, ◌<◌, Bool, true, false, ◌||◌, ◌≤◌, leb, eqb, Option, Some, Result, Ok, List}
-use Rattle.std.proofs.Common.{[], ◌∷◌, ◌++◌, refl, subst, ap, ◌∙◌, arith}
-use Rattle.std.specs.List.{list_any}
-use Rattle.std.proofs.lemmas.Bool.{and_from, eq-eqb, eqb-true, eqb-false, le-leb, or_left, or_right}
-use Rattle.ddcmp_msg.specs.Message.{MessageValue, Data, Ack, Nak, Rep, Strt, Stack}
-use Rattle.ddcmp_msg.specs.Reading.{ReadingValue, reading, Sound}
-use Rattle.dna_packet.specs.declared.ack_word.AckWord.{AckWord}
-use Rattle.dna_packet.specs.Nsp.{SegmentValue, NspValue, DataSegment, LinkService, DataAck, OtherDataAck, ConnectAck, NoOperation, ConnectInitiate}
-use Rattle.dna_packet.specs.Nsp.{ConnectConfirm, DisconnectInitiate, DisconnectConfirm}
-use Rattle.dna_station.specs.declared.refusal.StepRefusal.{StepRefusal}
-use Rattle.dna_station.specs.Book.{body_of}
-use Rattle.dna_links.specs.SegmentBook.{REACH, wire, is_of_data}
-use Rattle.dna_links.specs.Links.{Carried}
-use Rattle.dna_node.specs.Content.{content}
-use Rattle.accusing.specs.Placing.{Passed, Own, Other}
-use Rattle.accusing_links.specs.Segments.{packet_in}
-use Rattle.accusing_segments.specs.History.{Known, is_this, bit, end_sent, is_named, words_name, acknowledges, is_room, has_room, message_of}
-use Rattle.accusing_segments.specs.History.{message_within, said}
-use Rattle.accusing_segments.specs.History.{in_unit, by_own, by_other, history}
-use Rattle.accusing_segments.specs.Wrong.{is_covered, is_acknowledged, is_first, is_next, is_right, is_short, is_in_room}
-use Rattle.accusing_segments.proofs.Gave.{More, WordsPassed}
+use Rattle.accusing_segments.proofs.Prelude.{◌≡◌, ℕ, zero, suc, ◌+◌, ◌<◌, Bool, true, false, ◌||◌, ◌≤◌, leb, eqb, Option, Some, Result, Ok, List}
+use Rattle.accusing_segments.proofs.Prelude.{[], ◌∷◌, ◌++◌, refl, subst, ap, ◌∙◌, arith, list_any, and_from, eq-eqb, eqb-false, le-leb, or_left}
+use Rattle.accusing_segments.proofs.Prelude.{or_right, MessageValue, Data, Ack, Nak, Rep, Strt, Stack, ReadingValue, reading, Sound, AckWord}
+use Rattle.accusing_segments.proofs.Prelude.{SegmentValue, NspValue, DataSegment, LinkService, DataAck, OtherDataAck, ConnectAck, NoOperation}
+use Rattle.accusing_segments.proofs.Prelude.{ConnectInitiate, ConnectConfirm, DisconnectInitiate, DisconnectConfirm, StepRefusal, body_of, REACH}
+use Rattle.accusing_segments.proofs.Prelude.{wire, is_of_data, Carried, content, Passed, Own, Other, packet_in, Known, is_this, bit, end_sent}
+use Rattle.accusing_segments.proofs.Prelude.{is_named, words_name, acknowledges, is_room, has_room, message_of, message_within, said, in_unit}
+use Rattle.accusing_segments.proofs.Prelude.{by_own, by_other, history, is_covered, is_acknowledged, is_first, is_next, is_right, is_short}
+use Rattle.accusing_segments.proofs.Prelude.{is_in_room}
+use Rattle.std.proofs.lemmas.Bool.{eqb-true}
+use Rattle.accusing_segments.proofs.{Gave.More, Gave.WordsPassed, RightLinks.Links, LinkSteps.HasCome, LinkSends.HasGone}
 use Rattle.accusing_segments.proofs.SegmentSends.{IsFine, Released, First, Next}
-use Rattle.accusing_segments.proofs.RightLinks.{Links}
-use Rattle.accusing_segments.proofs.LinkSteps.{HasCome}
-use Rattle.accusing_segments.proofs.LinkSends.{HasGone}
 
 -- ---- one unit more
 

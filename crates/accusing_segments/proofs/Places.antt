@@ -1,6 +1,6 @@
 -- Which element a place has, once a list is changed.
-use Rattle.std.proofs.Common.{◌≡◌, ℕ, zero, suc, Some, List, [], ◌∷◌, ◌++◌, map, length, ap, refl, ◌⊎◌, inl, inr}
-use Rattle.std.specs.Prelude.{slice_get, slice_set}
+use Rattle.accusing_segments.proofs.Prelude.{◌≡◌, ℕ, zero, suc, Some, List, [], ◌∷◌, ◌++◌, map, length, ap, refl, ◌⊎◌, inl, inr, slice_get}
+use Rattle.accusing_segments.proofs.Prelude.{slice_set}
 
 pub pushed_place : {X : Type 0} (xs : List X) (x : X) (i : ℕ) (y : X) → slice_get (xs ++ x ∷ []) i ≡ Some y →
     (slice_get xs i ≡ Some y) ⊎ ((i ≡ length xs) × (x ≡ y))

@@ -1,24 +1,11 @@
 -- What every link of a node has given in segments was sent, and had room at the other side; and what becomes of that by each effect of a row.
-use Rattle.std.proofs.Common.{◌≡◌, ℕ, Bool, true, false, Option, Some, None, List, [], ◌∷◌, ◌++◌, map, zero, suc, fold, subst, refl}
-use Rattle.std.proofs.Common.{◌≤◌, ◌⊎◌, inl, inr}
-use Rattle.std.specs.Prelude.{slice_get, slice_set}
-use Rattle.dna_links.specs.declared.port.Phase.{Phase}
-use Rattle.dna_links.specs.declared.port.Phase.TheVariants.{Calling, Called, Confirming, Running, Disconnecting, Ended}
-use Rattle.dna_links.specs.declared.port.Port.{Port}
-use Rattle.dna_links.specs.declared.queue.Queues.{Queues}
-use Rattle.dna_links.specs.declared.queue.Queues.TheVariants.{Without, With}
-use Rattle.dna_links.specs.declared.queue.Said.{Said}
-use Rattle.dna_links.specs.LookUps.{is_live, is_in}
-use Rattle.dna_links.specs.Links.{LinkOf, LinkTruth}
-use Rattle.dna_links.specs.Queues.{keeps_numbers, further, goes_on, goes_to, ends_by_message, drops, requeued, lets_go}
-use Rattle.dna_links.specs.Queues.{booted_link, forgotten, drops_segments}
-use Rattle.dna_links.specs.Table.{Effect, OpenHere, GiveAddress, Connect, GoTo, End, Drop, EndAll, Say, Settle, Keep, HandIn, TakeSegment, TakeAcks}
-use Rattle.dna_links.specs.WireSegments.{WireSegments, wire_segments}
-use Rattle.dna_links.specs.LinkBook.{blank, does}
-use Rattle.accusing_links.proofs.RightLinks.{is_early}
+use Rattle.accusing_segments.proofs.Prelude.{◌≡◌, ℕ, Bool, true, false, Option, Some, None, List, fold, refl}
+use Rattle.accusing_segments.proofs.Prelude.{◌≤◌, ◌⊎◌, inl, inr, Phase, Calling, Called, Confirming, Running, Disconnecting}
+use Rattle.accusing_segments.proofs.Prelude.{Ended, Port, Queues, Without, With, Said, is_live, is_in, LinkOf, LinkTruth, keeps_numbers, further}
+use Rattle.accusing_segments.proofs.Prelude.{goes_on, goes_to, ends_by_message, drops, requeued, lets_go, forgotten, drops_segments}
+use Rattle.accusing_segments.proofs.Prelude.{Effect, OpenHere, GiveAddress, Connect, GoTo, End, Drop, EndAll, Say, Settle, Keep, HandIn}
+use Rattle.accusing_segments.proofs.Prelude.{TakeSegment, TakeAcks, WireSegments, wire_segments, blank, does, is_early, Each, each_more, all_done}
 use Rattle.accusing_segments.proofs.Gave.{Passings, never, More, Gave, gave_more, never_less, empty_gave, ends_gave}
-use Rattle.accusing_links.proofs.Each.{Each, each_more}
-use Rattle.accusing_links.proofs.Rows.{all_done}
 
 -- what passed of each link: by its own address and the far one
 abbrev pub Links : Type 1

@@ -1,25 +1,14 @@
 -- A segment that a link may send is its first, or follows the one before, with room for its data, or may be acknowledged; and what it has given was
 -- sent.
-use Rattle.std.proofs.Common.{◌≡◌, ℕ, zero, suc, ◌+◌, ◌-◌, ◌<◌, ◌≤◌, Bool, true, false, ◌&&◌, ◌||◌, not, cond, leb, ltb, Option, Some, None}
-use Rattle.std.proofs.Common.{Result, Ok, Err, List, [], ◌∷◌, ◌++◌, length, refl, sym, subst, ap, ◌∙◌, arith, ◌⊎◌, inl, inr, length-append}
-use Rattle.std.proofs.Common.{eqb-true, ltb-true}
-use Rattle.std.specs.Prelude.{slice_get}
-use Rattle.std.specs.Str.{bytes_eq}
-use Rattle.std.proofs.lemmas.Bool.{and_parts, leb-true, leb-false}
-use Rattle.std.proofs.lemmas.Slice.Eq.{bytes_eq-Decides}
-use Rattle.dna_packet.specs.declared.ack_word.AckWord.{AckWord}
-use Rattle.dna_packet.specs.Nsp.{SegmentValue}
-use Rattle.dna_station.specs.declared.link_refusal.LinkRefusal.{LinkRefusal}
-use Rattle.dna_station.specs.declared.link_refusal.LinkRefusal.TheVariants.{WrongSegment, WrongAck, SegmentTooLong, LinkWindowFull}
-use Rattle.dna_links.specs.Links.{LinkOf}
-use Rattle.dna_links.specs.Segmentation.{Piece, piece_of, alike, same_piece, Unsent, is_next_of, is_next_piece, left_of, without_piece}
-use Rattle.dna_links.specs.SegmentBook.{Sending, Late, with_gap, wider, REACH, wire, distance}
-use Rattle.dna_links.specs.WireSegments.{WireSegments, LastSent, LateSent, last_of, all_named, with_last, sending, with_new, sends_new, is_given}
-use Rattle.dna_links.specs.WireSegments.{is_repeat, sends_again, is_new, segment_named, sends_segment, all_named_late, went_on, new_late, sends_late}
-use Rattle.dna_links.specs.WireSegments.{highest_given, acks_named, sends_acks}
-use Rattle.accusing_links.proofs.Answered.{Good, good_ok, good_err, good_check}
-use Rattle.accusing_links.proofs.Along.{SentBy, AtOnce, Waited}
-use Rattle.accusing_segments.specs.Wrong.{before}
+use Rattle.accusing_segments.proofs.Prelude.{◌≡◌, ℕ, ◌+◌, ◌-◌, ◌<◌, ◌≤◌, Bool, true, false, ◌&&◌, ◌||◌, not, cond, leb, ltb, Option}
+use Rattle.accusing_segments.proofs.Prelude.{Some, None, Result, Ok, Err, List, [], ◌∷◌, ◌++◌, length, refl, sym, subst, ap, ◌∙◌, arith, ◌⊎◌, inl}
+use Rattle.accusing_segments.proofs.Prelude.{inr, length-append, eqb-true, ltb-true, slice_get, bytes_eq, and_parts, leb-true, leb-false}
+use Rattle.accusing_segments.proofs.Prelude.{bytes_eq-Decides, AckWord, SegmentValue, LinkRefusal, WrongSegment, WrongAck, SegmentTooLong}
+use Rattle.accusing_segments.proofs.Prelude.{LinkWindowFull, LinkOf, Piece, piece_of, alike, same_piece, Unsent, is_next_of, is_next_piece, left_of}
+use Rattle.accusing_segments.proofs.Prelude.{without_piece, Sending, Late, with_gap, wider, REACH, wire, distance, WireSegments, LastSent, LateSent}
+use Rattle.accusing_segments.proofs.Prelude.{last_of, all_named, with_last, sending, with_new, sends_new, is_given, is_repeat, sends_again, is_new}
+use Rattle.accusing_segments.proofs.Prelude.{segment_named, sends_segment, all_named_late, went_on, new_late, sends_late, highest_given, acks_named}
+use Rattle.accusing_segments.proofs.Prelude.{sends_acks, Good, good_ok, good_err, good_check, SentBy, AtOnce, Waited, before}
 use Rattle.accusing_segments.proofs.Places.{pushed_place}
 use Rattle.accusing_segments.proofs.Gave.{Passings, More, Follows, follows_more, Gave, gave_more}
 

@@ -1,20 +1,12 @@
 -- What goes under a number, new or again, has the same marks and the same bytes as what was sent under it, where that can't be acknowledged.
-use Rattle.std.proofs.Common.{◌≡◌, ℕ, ◌+◌, ◌-◌, ◌<◌, ◌≤◌, Bool, true, false, ◌&&◌, ◌||◌, not, cond, leb, ltb, Option, Some, None}
-use Rattle.std.proofs.Common.{Result, Ok, Err, [], ◌∷◌, ◌++◌, length, refl, sym, subst, ap, ◌∙◌, arith, ◌⊎◌, inl, inr, length-append}
-use Rattle.std.proofs.Common.{eqb-true, ltb-true}
-use Rattle.std.specs.Prelude.{slice_get}
-use Rattle.std.proofs.lemmas.Bool.{and_parts, leb-true, leb-false}
-use Rattle.dna_packet.specs.Nsp.{SegmentValue}
-use Rattle.dna_station.specs.declared.link_refusal.LinkRefusal.{LinkRefusal}
-use Rattle.dna_station.specs.declared.link_refusal.LinkRefusal.TheVariants.{WrongSegment, WrongAck, SegmentTooLong, LinkWindowFull}
-use Rattle.dna_links.specs.Links.{LinkOf}
-use Rattle.dna_links.specs.Segmentation.{Piece, piece_of, is_next_piece}
-use Rattle.dna_links.specs.SegmentBook.{Sending, Late, with_gap, wider, REACH, wire, distance}
-use Rattle.dna_links.specs.WireSegments.{WireSegments, LastSent, LateSent, last_of, all_named, with_last, sending, with_new, sends_new}
-use Rattle.dna_links.specs.WireSegments.{is_given, is_repeat, sends_again, is_new, segment_named, sends_segment, all_named_late, went_on, new_late}
-use Rattle.dna_links.specs.WireSegments.{sends_late, highest_given}
-use Rattle.accusing_links.proofs.Answered.{Good, good_ok, good_err, good_check}
-use Rattle.accusing_links.proofs.Along.{SentBy, AtOnce, Waited}
+use Rattle.accusing_segments.proofs.Prelude.{◌≡◌, ℕ, ◌+◌, ◌-◌, ◌<◌, ◌≤◌, Bool, true, false, ◌&&◌, ◌||◌, not, cond, leb, ltb, Option, Some, None}
+use Rattle.accusing_segments.proofs.Prelude.{Result, Ok, Err, [], ◌∷◌, ◌++◌, length, refl, sym, subst, ap, ◌∙◌, arith, ◌⊎◌, inl, inr, length-append}
+use Rattle.accusing_segments.proofs.Prelude.{eqb-true, ltb-true, slice_get, and_parts, leb-true, leb-false, SegmentValue, LinkRefusal, WrongSegment}
+use Rattle.accusing_segments.proofs.Prelude.{WrongAck, SegmentTooLong, LinkWindowFull, LinkOf, Piece, piece_of, is_next_piece, Sending, Late}
+use Rattle.accusing_segments.proofs.Prelude.{with_gap, wider, REACH, wire, distance, WireSegments, LastSent, LateSent, last_of, all_named}
+use Rattle.accusing_segments.proofs.Prelude.{with_last, sending, with_new, sends_new, is_given, is_repeat, sends_again, is_new, segment_named}
+use Rattle.accusing_segments.proofs.Prelude.{sends_segment, all_named_late, went_on, new_late, sends_late, highest_given, Good, good_ok, good_err}
+use Rattle.accusing_segments.proofs.Prelude.{good_check, SentBy, AtOnce, Waited}
 use Rattle.accusing_segments.proofs.Gave.{Passings, same_more, Gave}
 use Rattle.accusing_segments.proofs.SegmentSends.{Gone, same_is, near, within, stands}
 use Rattle.accusing_segments.proofs.SentPieces.{Covered, Shown, IsOut, Fits, at_less, at_more, at_end, at_same}

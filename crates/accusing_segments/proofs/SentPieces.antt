@@ -1,21 +1,11 @@
 -- Of a link: what was sent under a number is outstanding as it was sent, or may be acknowledged; and stays so, whatever is acknowledged.
-use Rattle.std.proofs.Common.{◌≡◌, ℕ, zero, suc, ◌+◌, ◌-◌, ◌<◌, ◌≤◌, Bool, true, false, ◌&&◌, cond, leb, Option, Some, None}
-use Rattle.std.proofs.Common.{List, [], ◌∷◌, ◌++◌, length, drop, refl, subst, ◌∙◌, arith, ◌⊎◌, inl, inr}
-use Rattle.std.specs.Prelude.{slice_get}
-use Rattle.std.specs.List.{AllByRecursion}
-use Rattle.std.proofs.lemmas.Bool.{leb-true, leb-false}
-use Rattle.std.proofs.lemmas.List.{length-drop}
-use Rattle.dna_packet.specs.declared.ack_word.AckWord.{AckWord}
-use Rattle.dna_packet.specs.AckWord.{IsAckWord}
-use Rattle.dna_packet.specs.Nsp.{SegmentValue}
-use Rattle.dna_station.specs.declared.link_refusal.LinkRefusal.TheVariants.{WrongAck}
-use Rattle.dna_links.specs.Segmentation.{Piece, piece_of, Whole, next_message}
-use Rattle.dna_links.specs.SegmentBook.{Sending, REACH, wire, distance, is_of_data}
-use Rattle.dna_links.specs.WireSegments.{LinkVariables, WireSegments, LastSent, last_of, all_named, with_last, sending}
-use Rattle.dna_links.specs.WireSegments.{acks_named, sends_acks, acknowledged_to, acknowledged_by, acknowledged_by_all}
-use Rattle.dna_links.specs.WireSegments.{takes_acks, takes_segment, with_segment, held, with_pieces, delivers, delivers_whole, delivered_as}
-use Rattle.accusing_links.proofs.Answered.{Good, good_ok, good_err}
-use Rattle.accusing_links.proofs.Pieces.{dropped_get}
+use Rattle.accusing_segments.proofs.Prelude.{◌≡◌, ℕ, zero, suc, ◌+◌, ◌-◌, ◌<◌, ◌≤◌, Bool, true, false, ◌&&◌, cond, leb, Option, Some, None, List}
+use Rattle.accusing_segments.proofs.Prelude.{[], ◌∷◌, ◌++◌, length, drop, refl, subst, ◌∙◌, arith, ◌⊎◌, inl, inr, slice_get, AllByRecursion}
+use Rattle.accusing_segments.proofs.Prelude.{leb-true, leb-false, length-drop, AckWord, IsAckWord, SegmentValue, WrongAck, Piece, piece_of, Whole}
+use Rattle.accusing_segments.proofs.Prelude.{next_message, Sending, REACH, wire, distance, is_of_data, LinkVariables, WireSegments, LastSent}
+use Rattle.accusing_segments.proofs.Prelude.{last_of, all_named, with_last, sending, acks_named, sends_acks, acknowledged_to, acknowledged_by}
+use Rattle.accusing_segments.proofs.Prelude.{acknowledged_by_all, takes_acks, takes_segment, with_segment, held, with_pieces, delivers}
+use Rattle.accusing_segments.proofs.Prelude.{delivers_whole, delivered_as, Good, good_ok, good_err, dropped_get}
 use Rattle.accusing_segments.proofs.Gave.{Passings, GaveOf, Gave, WordsPassed, word_gave}
 
 -- it may be acknowledged: a word named this number, or one so little above it

@@ -1,23 +1,11 @@
 -- Which pieces passed of this side from one link to another; and how many calls passed of the other side by which a link gets these addresses.
-use Rattle.std.proofs.Common.{◌≡◌, ℕ, ◌+◌, ◌≤◌, Bool, true, false, ◌&&◌, ◌||◌, Option, Some, None, Result, Ok, Err, List, [], ◌∷◌, ◌++◌}
-use Rattle.std.proofs.Common.{refl, sym, subst, ap, ◌∙◌, ◌⊎◌, inl, inr, arith}
-use Rattle.std.proofs.lemmas.Bool.{or_right}
-use Rattle.ddcmp_msg.specs.Message.{MessageValue, Data, Ack, Nak, Rep, Strt, Stack}
-use Rattle.ddcmp_msg.specs.Reading.{ReadingValue, reading, Sound}
-use Rattle.dna_packet.specs.Nsp.{NspValue, DataSegment, LinkService, DataAck, OtherDataAck, ConnectAck, NoOperation, ConnectInitiate}
-use Rattle.dna_packet.specs.Nsp.{ConnectConfirm, DisconnectInitiate, DisconnectConfirm}
-use Rattle.dna_station.specs.declared.refusal.StepRefusal.{StepRefusal}
-use Rattle.dna_station.specs.Book.{body_of}
-use Rattle.dna_links.specs.declared.queue.Queues.{Queues}
-use Rattle.dna_links.specs.Links.{Carried}
-use Rattle.dna_links.specs.Segmentation.{Piece, piece_of}
-use Rattle.dna_node.specs.Content.{content}
-use Rattle.accusing.specs.Placing.{Passed, Own, Other}
-use Rattle.accusing_links.specs.Segments.{packet_in}
-use Rattle.accusing_segments.specs.History.{message_of, message_within, message_in, in_unit, by_other}
-use Rattle.accusing_segments.specs.Repeats.{calls, called_twice}
-use Rattle.accusing_segments.proofs.SentPieces.{Shown}
-use Rattle.accusing_segments.proofs.OneCallSends.{IsOf}
+use Rattle.accusing_segments.proofs.Prelude.{◌≡◌, ℕ, ◌+◌, ◌≤◌, Bool, true, false, ◌&&◌, ◌||◌, Option, Some, None, Result, Ok, Err, List, [], ◌∷◌}
+use Rattle.accusing_segments.proofs.Prelude.{◌++◌, refl, sym, subst, ap, ◌∙◌, ◌⊎◌, inl, inr, arith, or_right, MessageValue, Data, Ack, Nak, Rep}
+use Rattle.accusing_segments.proofs.Prelude.{Strt, Stack, ReadingValue, reading, Sound, NspValue, DataSegment, LinkService, DataAck, OtherDataAck}
+use Rattle.accusing_segments.proofs.Prelude.{ConnectAck, NoOperation, ConnectInitiate, ConnectConfirm, DisconnectInitiate, DisconnectConfirm}
+use Rattle.accusing_segments.proofs.Prelude.{StepRefusal, body_of, Queues, Carried, Piece, piece_of, content, Passed, Own, Other, packet_in}
+use Rattle.accusing_segments.proofs.Prelude.{message_of, message_within, message_in, in_unit, by_other, calls, called_twice}
+use Rattle.accusing_segments.proofs.{SentPieces.Shown, OneCallSends.IsOf}
 use Rattle.accusing_segments.proofs.OneCallNodes.{WasSent, InContent, InMessage}
 
 module _ (queues : Queues) (own far : ℕ) where

@@ -1,13 +1,8 @@
 -- The largest SEGSIZE of two links says for how many data bytes there is room, whichever were told.
-use Rattle.std.proofs.Common.{◌≡◌, ℕ, ◌≤◌, Bool, true, false, ◌&&◌, ◌||◌, cond, eqb, leb, ltb, Option, Some, None, List}
-use Rattle.std.proofs.Common.{refl, sym, ap, ap₂, ◌∙◌, arith}
-use Rattle.std.proofs.Common.{Ordering, Less, Equal, Greater, nat_cmp, eqb-true, ltb-true}
-use Rattle.std.proofs.lemmas.Bool.{leb-true, leb-false, le-leb}
-use Rattle.std.specs.Ordering.{is_eq, ordering_then}
-use Rattle.std.specs.Map.{lookup}
-use Rattle.std.specs.BTreeMap.{BTreeMap, get, is_at, Updates}
-use Rattle.accusing_segments.specs.History.{is_room}
-use Rattle.accusing_segments.specs.Fits.{two_compared, within, fits}
+use Rattle.accusing_segments.proofs.Prelude.{◌≡◌, ℕ, ◌≤◌, Bool, true, false, ◌&&◌, ◌||◌, cond, eqb, leb, ltb, Option, Some, None, List, refl, sym}
+use Rattle.accusing_segments.proofs.Prelude.{ap, ap₂, ◌∙◌, arith, Ordering, Less, Equal, Greater, nat_cmp, eqb-true, ltb-true, leb-true, leb-false}
+use Rattle.accusing_segments.proofs.Prelude.{le-leb, is_eq, ordering_then, lookup, BTreeMap, get, is_at, Updates, is_room, two_compared, within}
+use Rattle.accusing_segments.proofs.Prelude.{fits}
 
 -- ---- by the order of two numbers
 

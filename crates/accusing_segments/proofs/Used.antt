@@ -1,18 +1,7 @@
 -- Which links are found in use, by their phases and by what waits of them.
-use Rattle.std.proofs.Common.{◌≡◌, ℕ, true, false, ◌⊎◌, inl, inr, refl, subst}
-use Rattle.dna_links.specs.declared.port.Phase.{Phase}
-use Rattle.dna_links.specs.declared.port.Port.{Port}
-use Rattle.dna_links.specs.declared.port.Phase.TheVariants.{Called, Confirming, Running, Disconnecting, Ended}
-use Rattle.dna_links.specs.declared.port.LinkTest.{LinkTest}
-use Rattle.dna_links.specs.declared.queue.Queues.{Queues}
-use Rattle.dna_links.specs.declared.queue.Queues.TheVariants.{Without, With}
-use Rattle.dna_links.specs.LookUps.{is_live, is_in}
-use Rattle.dna_links.specs.Links.{LinkOf}
-use Rattle.dna_links.specs.Queues.{in_use}
-use Rattle.dna_links.specs.WireSegments.{WireSegments}
-use Rattle.dna_links.specs.WireLinks.{WireLinks}
-use Rattle.accusing_links.proofs.Finds.{IsInUse}
-use Rattle.accusing_links.proofs.RightLinks.{is_early}
+use Rattle.accusing_segments.proofs.Prelude.{◌≡◌, ℕ, true, false, ◌⊎◌, inl, inr, refl, subst, Phase, Port, Called, Confirming, Running}
+use Rattle.accusing_segments.proofs.Prelude.{Disconnecting, Ended, LinkTest, Queues, Without, With, is_live, is_in, LinkOf, in_use, WireSegments}
+use Rattle.accusing_segments.proofs.Prelude.{WireLinks, IsInUse, is_early}
 use Rattle.accusing_segments.proofs.OneCall.{IsUsed, IsDead}
 
 live_used : (q : Queues) (l : LinkOf WireSegments) (port : Port) → (port ≡ l.port) ⊎ (port ≡ in_use q l) → is_live port.phase ≡ true → IsUsed q l

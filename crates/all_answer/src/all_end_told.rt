@@ -12,7 +12,7 @@ use printing::end_text::end_text;
 use printing::fault_told::FaultTold;
 use printing::how::Form;
 use printing::layers::Layers;
-use printing::objects::{end_object, fault_object, with_lf};
+use printing::objects::{end_object, fault_object};
 use printing::text::{FAULTY, line_fault_text};
 use std::alloc::{AllocError, Global};
 use std::io::{Read, Seek};
@@ -33,10 +33,7 @@ impl<A: Read + Seek> EndCapture<'_, '_, A> {
             Form::Json if self.telling == Telling::Explained => {
                 plain_object(alloc, "passed", end_refusal_of(verdict))?
             }
-            Form::Json => {
-                let object = end_object(alloc, layers, self.printout.name, verdict)?;
-                with_lf(object)?
-            }
+            Form::Json => { end_object(alloc, layers, self.printout.name, verdict).into_line()? }
             Form::Rows => end_text(alloc, layers, verdict)?.into_bytes(),
         };
         Ok(end_answer_of(verdict, text))
@@ -134,8 +131,7 @@ impl<A: Read + Seek> EndCapture<'_, '_, A> {
             Form::Rows => in_memory(line_fault_text(alloc, Side::A, kind, line))?.into_bytes(),
             Form::Json => {
                 let told = FaultTold::of_capture(Side::A, fault, FAULTY);
-                let object = in_memory(fault_object(alloc, self.printout.name, told))?;
-                in_memory(with_lf(object))?
+                in_memory(fault_object(alloc, self.printout.name, told).into_line())?
             }
         };
         Ok(Answer {

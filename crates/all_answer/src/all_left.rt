@@ -50,13 +50,13 @@ impl Beyond {
         }
     }
 
-    /// The same as an object with its LF.
-    pub fn object(self) -> &'static str {
+    /// What is not asked any more, as a word of an object.
+    pub fn unasked(self) -> Option<&'static str> {
         match self {
-            Beyond::AnyPeriod => "{\"what\": \"from_here\", \"unasked\": \"periods\"}\n",
-            Beyond::UnreadPackets => "{\"what\": \"from_here\", \"unasked\": \"packets\"}\n",
-            Beyond::UnreadMessages => "{\"what\": \"from_here\", \"unasked\": \"messages\"}\n",
-            Beyond::Ends | Beyond::Links => "",
+            Beyond::AnyPeriod => Some("periods"),
+            Beyond::UnreadPackets => Some("packets"),
+            Beyond::UnreadMessages => Some("messages"),
+            Beyond::Ends | Beyond::Links => None,
         }
     }
 }

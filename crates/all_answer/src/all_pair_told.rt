@@ -10,7 +10,7 @@ use pair_judge::{JudgeFault, JudgedEnds, TextFault, Verdict, Watched, judge};
 use printing::fault_told::FaultTold;
 use printing::how::Form;
 use printing::layers::Layers;
-use printing::objects::{fault_object, verdict_object, with_lf};
+use printing::objects::{fault_object, verdict_object};
 use printing::text::{FAULTY, line_fault_text, verdict_status, verdict_text};
 use std::alloc::{AllocError, Global};
 use std::io::{Read, Seek};
@@ -32,8 +32,7 @@ impl<A: Read + Seek, B: Read + Seek> PairCaptures<'_, '_, '_, A, B> {
                 plain_object(alloc, "accepted", refusal_of(verdict))?
             }
             Form::Json => {
-                let object = verdict_object(alloc, layers, self.printout.name_a, verdict)?;
-                with_lf(object)?
+                verdict_object(alloc, layers, self.printout.name_a, verdict).into_line()?
             }
             Form::Rows => verdict_text(alloc, layers, verdict)?.into_bytes(),
         };
@@ -141,8 +140,7 @@ impl<A: Read + Seek, B: Read + Seek> PairCaptures<'_, '_, '_, A, B> {
             Form::Rows => in_memory(line_fault_text(alloc, side, kind, line))?.into_bytes(),
             Form::Json => {
                 let told = FaultTold::of_judge(fault, FAULTY);
-                let object = in_memory(fault_object(alloc, self.printout.name_a, told))?;
-                in_memory(with_lf(object))?
+                in_memory(fault_object(alloc, self.printout.name_a, told).into_line())?
             }
         };
         Ok(Answer {

@@ -1,9 +1,10 @@
 //! The lines of an answer with all refusals, as they are found.
 
 use crate::all_left::Beyond;
+use json_text::Members;
 use pair_judge::Reason;
 use printing::how::Form;
-use printing::objects::{put, put_place, put_reason};
+use printing::objects::{put_place, put_reason};
 use printing::path_text::put_path;
 use std::alloc::{AllocError, Global};
 use wire_base::Side;
@@ -46,6 +47,7 @@ impl Answer {
 /// What was told so far.
 #[derive(Drop)]
 pub struct AllTold {
+    alloc: Global,
     text: Vec<u8>,
     form: Form,
     // Whether a refusal takes many rows.
@@ -60,6 +62,7 @@ impl AllTold {
     /// Nothing. Of several pairs each begins with the name of its first file.
     pub fn new(alloc: Global, form: Form, is_long: bool) -> AllTold {
         AllTold {
+            alloc,
             text: Vec::new(alloc),
             form,
             is_long,
@@ -116,7 +119,7 @@ impl AllTold {
         self.put_pending()?;
         match self.form {
             Form::Rows => self.text.extend_from_slice(b"else ")?,
-            Form::Json => self.text.extend_from_slice(b"{\"what\": \"else\"}\n")?,
+            Form::Json => self.put_object(begun(self.alloc, "else"))?,
         }
         self.text.extend_from_slice(answer.text.as_slice())?;
         if let Some(refusal) = answer.refusal {
@@ -131,7 +134,7 @@ impl AllTold {
         self.refusals.push(refusal)?;
         match self.form {
             Form::Rows => self.text.extend_from_slice(b"and more\n"),
-            Form::Json => self.text.extend_from_slice(b"{\"what\": \"more\"}\n"),
+            Form::Json => self.put_object(begun(self.alloc, "more")),
         }
     }
 
@@ -140,19 +143,30 @@ impl AllTold {
         if self.refusals.is_empty() {
             return Ok(());
         }
-        let is_spaced = self.is_long && self.form == Form::Rows;
-        if is_spaced {
+        match self.form {
+            Form::Rows => self.put_pending_words(),
+            Form::Json => match self.pending.unasked() {
+                Some(unasked) => self.put_object(from_here(self.alloc, unasked)),
+                None => Ok(()),
+            },
+        }
+    }
+
+    fn put_pending_words(&mut self) -> Result<(), AllocError> {
+        if self.is_long {
             self.text.push(b'\n')?;
         }
-        let words = match self.form {
-            Form::Rows => self.pending.words(),
-            Form::Json => self.pending.object(),
-        };
+        let words = self.pending.words();
         self.text.extend_from_slice(words.as_bytes())?;
-        if is_spaced && !words.is_empty() {
+        if self.is_long && !words.is_empty() {
             self.text.push(b'\n')?;
         }
         Ok(())
+    }
+
+    fn put_object(&mut self, object: Members) -> Result<(), AllocError> {
+        let line = object.into_line()?;
+        self.text.extend_from_slice(line.as_slice())
     }
 }
 
@@ -163,17 +177,22 @@ pub fn plain_object(
     refusal: Option<Refusal>,
 ) -> Result<Vec<u8>, AllocError> {
     let Some(refusal) = refusal else {
-        let object = format!(in alloc; "{{\"what\": \"{passed}\"}}\n")?;
-        return Ok(object.into_bytes());
+        return begun(alloc, passed).into_line();
     };
-    let mut object = Vec::new(alloc);
-    put_refused(alloc, &mut object, refusal)?;
-    Ok(object)
+    let mut object = begun(alloc, "refused");
+    put_place(&mut object, refusal.side, refusal.place);
+    put_reason(&mut object, refusal.reason);
+    object.into_line()
 }
 
-fn put_refused(alloc: Global, object: &mut Vec<u8>, refusal: Refusal) -> Result<(), AllocError> {
-    put(object, "{\"what\": \"refused\"")?;
-    put_place(alloc, object, refusal.side, refusal.place)?;
-    put_reason(alloc, object, refusal.reason)?;
-    put(object, "}\n")
+fn from_here(alloc: Global, unasked: &str) -> Members {
+    let mut object = begun(alloc, "from_here");
+    object.text("unasked", unasked);
+    object
+}
+
+fn begun(alloc: Global, what: &str) -> Members {
+    let mut object = Members::new(alloc);
+    object.text("what", what);
+    object
 }

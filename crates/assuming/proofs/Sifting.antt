@@ -56,7 +56,8 @@ module _ (old new : List (ℕ × ℕ × ℕ)) (turns : List Turn) (h : AreNoted 
           (λ (other : Turn). place_of turn ≢ place_of other)
           (λ (other : Turn) there e. never (absent ∙ ap (has_place old) (is ∙ e) ∙ there)) turns h.noted);
       noted = All-push (λ (other : Turn). has_place new (place_of other) ≡ true) turns turn noted_added.noted
-          (subst (λ (place : ℕ × ℕ × ℕ). has_place new place ≡ true) is (more x y z ∙ or_left (is_this (x, y, z) x y z) (has old x y z) (is_itself x y z)));
+          (subst (λ (place : ℕ × ℕ × ℕ). has_place new place ≡ true) is
+          (more x y z ∙ or_left (is_this (x, y, z) x y z) (has old x y z) (is_itself x y z)));
     }
 
 -- what is true of each, and of the one more

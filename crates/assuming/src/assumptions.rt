@@ -38,7 +38,8 @@ pub fn assume<A: Read, B: Read>(
     a: &mut Tally<A>,
     b: &mut Tally<B>,
 ) -> Result<Assumptions, (Side, CaptureFault)>
-    ensures { IfOk result (λ found. AreAssumptions (A.remaining (tally_lent a.old)) (B.remaining (tally_lent b.old)) found.turns.items found.too_long) }
+    ensures { IfOk result (λ found.
+        AreAssumptions (A.remaining (tally_lent a.old)) (B.remaining (tally_lent b.old)) found.turns.items found.too_long) }
 {
     let of_a = match load(alloc, a) {
         Ok(loaded) => loaded,

@@ -14,7 +14,8 @@ use Rattle.capture.specs.declared.hint.HintForm.TheVariants.{Number, Distance, W
 use Rattle.capture.specs.declared.format.Format.TheVariants.{One, Two, Three}
 use Rattle.capture.specs.Text.{address_text, capture_text, ended, form_behind, record_text, spaced}
 use Rattle.capture.specs.Reading.{address_at, any_bytes_at, bytes_at, event_at, head_at, hint_above, hint_at, hint_below}
-use Rattle.capture.specs.Reading.{line_at, link_event_at, message_within, nodes_at, number_at, pairs_at, positive_at, receipt_at, record_at, wide_at, wide_event_at}
+use Rattle.capture.specs.Reading.{line_at, link_event_at, message_within, nodes_at, number_at}
+use Rattle.capture.specs.Reading.{pairs_at, positive_at, receipt_at, record_at, wide_at, wide_event_at}
 use Rattle.capture.proofs.AddressLaws.{address_takes}
 use Rattle.capture.proofs.NumberLaws.{number_takes}
 use Rattle.capture.proofs.RecordLaws.{record_read, record_too_long}

@@ -4,13 +4,16 @@ pub mod AddressLaws
 pub mod BytesLaws
 pub mod DigitsLaws
 pub mod SpelledLaws
+pub mod LanesLaws
 pub mod Shown
 pub mod EventLaws
 pub mod HintLaws
 pub mod NumberedLaws
 pub mod RecordLaws
 pub mod HeadLaws
+pub mod PartHead
 pub mod FormatRows
+pub mod PartRows
 pub mod BlockLaws
 pub mod LineLaws
 pub mod SeekLaws
@@ -19,6 +22,7 @@ pub mod LackLaws
 pub mod SidedLaws
 pub mod TextLaws
 pub mod SoFarLaws
+pub mod PartText
 pub mod ListedHead
 pub mod ListedTake
 pub mod ListedLines

@@ -3,7 +3,7 @@ use Rattle.std.proofs.Common.{◌≡◌, ℕ, ◌<◌, true, List, [], ◌∷◌
 use Rattle.std.specs.List.{flat_map, AllByRecursion}
 use Rattle.std.proofs.lemmas.List.{append_assoc}
 use Rattle.capture.specs.declared.fault.Departure.{Departure}
-use Rattle.capture.specs.declared.fault.Departure.TheVariants.{Syntax, TooLong, TooMany}
+use Rattle.capture.specs.declared.fault.Departure.TheVariants.{Syntax, TooLong, TooMany, Part}
 use Rattle.capture.specs.Text.{ended}
 use Rattle.capture.specs.Range.{IsNode}
 use Rattle.capture.specs.Departing.{first_line, has_lf, LineDeparts}
@@ -66,6 +66,7 @@ module _ {Item : Type 0} (form : ListForm Item) (lines : AreLinesOf form) where
       by_kind TooMany d = let le = d.0 in omega arith
       by_kind TooLong d = let long = d.1 in let short = lines.short item h in omega (arith, ap length first.0)
       by_kind Syntax d = let open_line = d.3 in let ended_line = first.1 in cc
+      by_kind Part d = d
   no_departure kind item rest items h few (inr d) =
       let first = ended_first (form.line item) rest (item_lacks form lines item h) in
       lines.fit kind item h (subst (form.WordsDepart kind) first.0 d.2)
@@ -74,6 +75,7 @@ module _ {Item : Type 0} (form : ListForm Item) (lines : AreLinesOf form) where
   no_end_departure items Syntax (inl d) = d.1 refl
   no_end_departure items TooLong (inl d) = let long = d.1 in omega arith
   no_end_departure items TooMany (inl d) = d.1 refl
+  no_end_departure items Part (inl d) = d
   no_end_departure items kind (inr d) = let ended_line = d.1.ended in cc
 
   -- where a head's line comes first, nothing departs
@@ -86,6 +88,7 @@ module _ {Item : Type 0} (form : ListForm Item) (lines : AreLinesOf form) where
   pub no_head_departure : (kind : Departure) (node_a node_b : ℕ) (rest : List ℕ) → IsNode node_a → IsNode node_b →
       ListHeadDeparts form.first_words kind (ended (list_head form.first_words node_a node_b) ++ rest) → ⊥
   no_head_departure TooMany node_a node_b rest p q d = d
+  no_head_departure Part node_a node_b rest p q d = d
   no_head_departure TooLong node_a node_b rest p q d =
       let first = head_first node_a node_b rest p q in
       let short = head_short form.first_words node_a node_b (first_words form lines) p q in
@@ -114,6 +117,8 @@ module _ {Item : Type 0} (form : ListForm Item) (lines : AreLinesOf form) where
   head_departs_once bytes TooLong TooLong p q = refl
   head_departs_once bytes TooMany b p q = absurd p
   head_departs_once bytes a TooMany p q = absurd q
+  head_departs_once bytes Part b p q = absurd p
+  head_departs_once bytes a Part p q = absurd q
   head_departs_once bytes Syntax TooLong (inl p) q = let short = p.0 in absurd (omega arith)
   head_departs_once bytes Syntax TooLong (inr p) q = let short = p.0.short in absurd (omega arith)
   head_departs_once bytes TooLong Syntax p (inl q) = let short = q.0 in absurd (omega arith)

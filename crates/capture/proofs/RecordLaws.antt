@@ -13,7 +13,7 @@ use Rattle.capture_record.specs.declared.fate.Fate.TheVariants.{NotKept, Kept, D
 use Rattle.capture_record.specs.declared.record.Record.{Record}
 use Rattle.capture_record.specs.declared.record.Record.TheVariants.{Sent, Received, Noise, User}
 use Rattle.capture.specs.declared.hint.HintForm.{HintForm}
-use Rattle.capture.specs.declared.hint.HintForm.TheVariants.{Number, Distance, Wide}
+use Rattle.capture.specs.declared.hint.HintForm.TheVariants.{Number, Distance, Wide, Part}
 use Rattle.capture.specs.declared.fault.Departure.TheVariants.{Syntax, TooLong}
 use Rattle.capture.specs.Text.{spaced, bytes_text, hint_text, fate_front, event_front, event_text, record_text}
 use Rattle.capture_record.specs.Range.{NumbersFit, record_bytes, most_bytes, event_bytes, most_of_event, HasSpelling, IsShort, IsRecord}
@@ -31,11 +31,13 @@ pub allowed_in : (form : HintForm) (r : Record) → IsAllowed (is_wide form) r �
 allowed_in Number r h = h
 allowed_in (Distance mark) r h = h
 allowed_in Wide r h = h
+allowed_in Part r h = h
 
 pub in_allowed : (form : HintForm) (r : Record) → IsInForm form r → IsAllowed (is_wide form) r
 in_allowed Number r h = h
 in_allowed (Distance mark) r h = h
 in_allowed Wide r h = h
+in_allowed Part r h = h
 
 -- a record that was read, and one that was read except for the length of its BYTES
 abbrev pub IsRecordOf : (wide : Bool) → HintForm → List ℕ → Record → Type 0

@@ -8,7 +8,7 @@ use Rattle.capture.specs.declared.limit.TheConstants.{MAX_RECORDS}
 use Rattle.capture.specs.declared.fault.Departure.{Departure}
 use Rattle.capture_record.specs.declared.record.Record.{Record}
 use Rattle.capture.specs.declared.hint.HintForm.{HintForm}
-use Rattle.capture.specs.declared.hint.HintForm.TheVariants.{Number, Distance, Wide}
+use Rattle.capture.specs.declared.hint.HintForm.TheVariants.{Number, Distance, Wide, Part}
 use Rattle.capture.specs.declared.format.Format.{Format}
 use Rattle.capture.specs.Text.{head_line, record_line, record_lines, capture_text, first_form, form_after, form_behind, format_of}
 use Rattle.capture_record.specs.Range.{IsRecord}
@@ -30,7 +30,7 @@ pub All-behind : {X : Type 0} (P : X → Type 0) (xs ys : List X) → AllByRecur
 All-behind P [] ys all = all
 All-behind P (x ∷ xs) ys all = All-behind P xs ys all.1
 
-record_lines-push : (form : HintForm) (rs : List Record) (r : Record) → record_lines form (rs ++ r ∷ []) ≡ record_lines form rs ++
+pub record_lines-push : (form : HintForm) (rs : List Record) (r : Record) → record_lines form (rs ++ r ∷ []) ≡ record_lines form rs ++
     record_line (form_behind form rs) r
 record_lines-push form [] r = append-nil (record_line form r)
 record_lines-push form (s ∷ rs) r =
@@ -47,6 +47,7 @@ format_stays : (form : HintForm) (r : Record) → format_of (form_after form r) 
 format_stays Number r = refl
 format_stays (Distance mark) r = refl
 format_stays Wide r = refl
+format_stays Part r = refl
 
 behind_fits : (form : HintForm) (rs : List Record) → FormFits form → AllByRecursion IsRecord rs → FormFits (form_behind form rs)
 behind_fits form [] fits each = fits
@@ -99,7 +100,7 @@ module _ (text before after : Option (List ℕ)) (form : HintForm) (own peer : �
       }
 
 -- nothing is left behind a beginning
-consumes_all : (text come : Option (List ℕ)) (read : List ℕ) → Consumes text come read → IsAtEnd come → Consumes text (Some []) read
+pub consumes_all : (text come : Option (List ℕ)) (read : List ℕ) → Consumes text come read → IsAtEnd come → Consumes text (Some []) read
 consumes_all None come read first end = tt
 consumes_all (Some t) None read first end = absurd first
 consumes_all (Some t) (Some bs) read first end = first ∙ ap (λ xs. read ++ xs) end
@@ -175,7 +176,7 @@ pub goes_on : (bytes : List ℕ) (own peer : ℕ) (rs : List Record) (read : Rea
 goes_on bytes own peer rs read is_text h = goes_by read.behind bytes own peer rs read.form read.own read.peer read.records is_text h
 
 -- the records that may still come
-room : (rs ss more : List Record) → length rs ≤ MAX_RECORDS → rs ≡ ss ++ more → length ss + length more ≤ MAX_RECORDS
+pub room : (rs ss more : List Record) → length rs ≤ MAX_RECORDS → rs ≡ ss ++ more → length ss + length more ≤ MAX_RECORDS
 room rs ss more few all = omega (arith, length-append ss more, ap length all)
 
 no_line : (bytes left : List ℕ) (own peer : ℕ) (rs : List Record) (read : ReadSoFar) (kind : Departure) → IsText own peer rs bytes →

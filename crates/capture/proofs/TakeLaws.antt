@@ -7,18 +7,20 @@ use Rattle.std.proofs.KnownBytes.{prepend_known-nil}
 use Rattle.std.proofs.lemmas.List.{append_assoc}
 use Rattle.capture.specs.declared.limit.TheConstants.{MAX_RECORDS}
 use Rattle.capture.specs.declared.fault.Departure.{Departure}
-use Rattle.capture.specs.declared.fault.Departure.TheVariants.{Syntax, TooLong, TooMany}
+use Rattle.capture.specs.declared.fault.Departure.TheVariants.{Syntax, TooLong, TooMany, Part}
 use Rattle.capture.specs.declared.hint.HintForm.{HintForm}
 use Rattle.capture_record.specs.declared.record.Record.{Record}
 use Rattle.capture.specs.Text.{record_text, ended}
 use Rattle.capture_record.specs.Range.{IsRecord, record_bytes, most_bytes}
 use Rattle.capture.specs.Range.{FormFits, IsInForm}
-use Rattle.capture.specs.Departing.{first_line, IsWhole, WordsDepart, RecordDeparts, HeadWordsDepart, HeadDeparts}
-use Rattle.capture.specs.Reading.{is_wide, record_at, head_at}
+use Rattle.capture.specs.Departing.{first_line, IsWhole, WordsDepart, RecordDeparts, HeadWordsDepart}
+use Rattle.capture.specs.Opening.{EitherHeadDeparts}
+use Rattle.capture.specs.Reading.{is_wide, record_at, head_at, part_head_at}
 use Rattle.capture.proofs.BytesLaws.{limited}
 use Rattle.capture.proofs.LineLaws.{line-split, line-append, if_known}
 use Rattle.capture.proofs.RecordLaws.{IsRecordOf, IsLongRecordOf, allowed_in, record_shows, record_again}
 use Rattle.capture.proofs.HeadLaws.{head_again}
+use Rattle.capture.proofs.PartHead.{part_head_again}
 use Rattle.capture.proofs.Shown.{Shows}
 
 -- ---- the line that was found
@@ -83,6 +85,7 @@ words_depart form TooLong text fits e =
       allowed_in form r h.4,
     )
 words_depart form TooMany text fits e = subst (ShowsIn form text) e (record_shows (is_wide form) form text fits)
+words_depart form Part text fits e = subst (ShowsIn form text) e (record_shows (is_wide form) form text fits)
 
 -- ---- departures of what was to come
 
@@ -99,13 +102,19 @@ record_departs form kind unread len taken before after fits lt some whole e kept
 
 pub no_head : (unread : List ℕ) (len : ℕ) (before after : Option (List ℕ)) → IsWhole unread → len ≡ length (first_line unread) →
     Keeps before (prepend_known unread after)
-    → head_at (take len unread) ≡ None → IfSome before (HeadDeparts Syntax)
-no_head unread len before after whole e kept read =
+    → head_at (take len unread) ≡ None → part_head_at (take len unread) ≡ None → IfSome before (EitherHeadDeparts Syntax)
+no_head unread len before after whole e kept read read_part =
     let none : head_at (first_line unread) ≡ None = ap head_at (sym (line_is unread len whole e)) ∙ read in
-    let departs : HeadWordsDepart Syntax (first_line unread) =
-    λ format own peer p q spelled. absurd
-    (let some : None ≡ Some (format, own, peer) = sym none ∙ ap head_at spelled ∙ head_again format own peer p q in cc) in
-    if_known before after unread (HeadDeparts Syntax) kept (λ rest.
+    let none_part : part_head_at (first_line unread) ≡ None = ap part_head_at (sym (line_is unread len whole e)) ∙ read_part in
+    let departs : HeadWordsDepart Syntax (first_line unread) = (
+      λ format own peer p q spelled. absurd
+          (let some : None ≡ Some (format, own, peer) = sym none ∙ ap head_at spelled ∙ head_again format own peer p q in cc),
+      λ part. absurd
+          (let some : None ≡ Some (part.own, part.peer) =
+          sym none_part ∙ ap part_head_at part.spelled ∙ part_head_again part.own part.peer part.own_fits part.peer_fits in
+          cc),
+    ) in
+    if_known before after unread (EitherHeadDeparts Syntax) kept (λ rest.
     let same = whole-append unread rest whole in
     inr (same.0, subst (HeadWordsDepart Syntax) (sym same.1) departs))
 

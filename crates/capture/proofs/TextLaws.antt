@@ -6,7 +6,7 @@ use Rattle.std.proofs.lemmas.Option.{same_Some}
 use Rattle.std.proofs.lemmas.List.{append_assoc, append-nil, append_cancel_left}
 use Rattle.capture.specs.declared.limit.TheConstants.{MAX_RECORDS}
 use Rattle.capture.specs.declared.fault.Departure.{Departure}
-use Rattle.capture.specs.declared.fault.Departure.TheVariants.{Syntax, TooLong, TooMany}
+use Rattle.capture.specs.declared.fault.Departure.TheVariants.{Syntax, TooLong, TooMany, Part}
 use Rattle.capture.specs.declared.hint.HintForm.{HintForm}
 use Rattle.capture.specs.declared.format.Format.{Format}
 use Rattle.capture.specs.declared.format.Format.TheVariants.{One, Two, Three}
@@ -20,6 +20,7 @@ use Rattle.capture.proofs.PartLaws.{HasNo}
 use Rattle.capture.proofs.LineLaws.{line-ended}
 use Rattle.capture.proofs.RecordLaws.{any_read, record_read, record_too_long}
 use Rattle.capture.proofs.HeadLaws.{head_again}
+use Rattle.capture.proofs.PartHead.{heads_apart}
 use Rattle.capture.proofs.HintLaws.{form_fits}
 use Rattle.capture.proofs.LackLaws.{record_lacks, head_lacks, record_short, head_short}
 
@@ -118,6 +119,7 @@ words_fit : (form : HintForm) (kind : Departure) (r : Record) → FormFits form 
     WordsDepart form kind (record_text form r) → ⊥
 words_fit form Syntax r fits h has d = d r h.spelling refl has
 words_fit form TooMany r fits h has d = d
+words_fit form Part r fits h has d = d
 words_fit form TooLong r fits h has d =
     let both : ◌≡◌ {A = Result Record Departure} (Ok r) (Err TooLong) = sym (record_read form r fits h has) ∙ ap (record_at form) d.3 ∙
     record_too_long form d.0 fits d.1 d.2 d.4 in
@@ -135,6 +137,7 @@ no_departure form kind r rest records fits h few has (inl d) = by_kind kind d
     by_kind TooMany d = let le = d.0 in omega arith
     by_kind TooLong d = let long = d.1 in let short = record_short form r fits h in omega (arith, ap length first.0)
     by_kind Syntax d = let open_line = d.3 in let ended_line = first.1 in cc
+    by_kind Part d = d
 no_departure form kind r rest records fits h few has (inr d) =
     let first = ended_first (record_text form r) rest (record_lacks form r fits h.spelling) in
     words_fit form kind r fits h has (subst (WordsDepart form kind) first.0 d.2)
@@ -145,6 +148,8 @@ pub line_once : (most taken : ℕ) (bytes : List ℕ) (a b : Departure) → Line
 line_once most taken bytes Syntax Syntax p q = refl
 line_once most taken bytes TooLong TooLong p q = refl
 line_once most taken bytes TooMany TooMany p q = refl
+line_once most taken bytes Part b p q = absurd p
+line_once most taken bytes a Part p q = absurd q
 line_once most taken bytes Syntax TooLong p q = let short = p.2 in let long = q.1 in absurd (omega arith)
 line_once most taken bytes Syntax TooMany p q = let lt = p.0 in let le = q.0 in absurd (omega arith)
 line_once most taken bytes TooLong Syntax p q = let long = p.1 in let short = q.2 in absurd (omega arith)
@@ -157,6 +162,8 @@ words_once form line Syntax Syntax p q = refl
 words_once form line TooLong TooLong p q = refl
 words_once form line TooMany b p q = absurd p
 words_once form line a TooMany p q = absurd q
+words_once form line Part b p q = absurd p
+words_once form line a Part p q = absurd q
 words_once form line Syntax TooLong p q = absurd (p q.0 q.1 q.3 q.4)
 words_once form line TooLong Syntax p q = absurd (q p.0 p.1 p.3 p.4)
 
@@ -164,6 +171,7 @@ pub whole_or_not : (most taken : ℕ) (bytes : List ℕ) (a : Departure) → Lin
 whole_or_not most taken bytes Syntax p lt whole = let open_line = p.3 in let ended_line = whole.ended in cc
 whole_or_not most taken bytes TooLong p lt whole = let long = p.1 in let short = whole.short in omega arith
 whole_or_not most taken bytes TooMany p lt whole = let le = p.0 in omega arith
+whole_or_not most taken bytes Part p lt whole = p
 
 pub departs_once : (form : HintForm) (records : ℕ) (bytes : List ℕ) (a b : Departure) → RecordDeparts form records a bytes →
     RecordDeparts form records b bytes → a ≡ b
@@ -176,12 +184,13 @@ pub no_end_departure : (form : HintForm) (records : ℕ) (kind : Departure) → 
 no_end_departure form records Syntax (inl d) = d.1 refl
 no_end_departure form records TooLong (inl d) = let long = d.1 in omega arith
 no_end_departure form records TooMany (inl d) = d.1 refl
+no_end_departure form records Part (inl d) = d
 no_end_departure form records kind (inr d) = let ended_line = d.1.ended in cc
 
 -- ---- departures of a head
 
 head_words_fit : (format : Format) (own peer : ℕ) → IsNode own → IsNode peer → HeadWordsDepart Syntax (head_text format own peer) → ⊥
-head_words_fit format own peer p q d = d format own peer p q refl
+head_words_fit format own peer p q d = d.0 format own peer p q refl
 
 -- where a head's line comes first, nothing departs
 pub no_head_departure : (kind : Departure) (format : Format) (own peer : ℕ) (rest : List ℕ) → IsNode own → IsNode peer →
@@ -199,12 +208,22 @@ no_head_departure Syntax format own peer rest p q (inl d) =
 no_head_departure Syntax format own peer rest p q (inr d) =
     let first = ended_first (head_text format own peer) rest (head_lacks format own peer p q) in
     head_words_fit format own peer p q (subst (HeadWordsDepart Syntax) first.0 d.1)
+no_head_departure Part format own peer rest p q d =
+    let first = ended_first (head_text format own peer) rest (head_lacks format own peer p q) in
+    heads_apart format own peer p q (subst (HeadWordsDepart Part) first.0 d.1)
 
 pub head_departs_once : (bytes : List ℕ) (a b : Departure) → HeadDeparts a bytes → HeadDeparts b bytes → a ≡ b
 head_departs_once bytes Syntax Syntax p q = refl
 head_departs_once bytes TooLong TooLong p q = refl
 head_departs_once bytes TooMany b p q = absurd p
 head_departs_once bytes a TooMany p q = absurd q
+head_departs_once bytes Part Part p q = refl
+head_departs_once bytes Part TooLong p q = let short = p.0.short in absurd (omega arith)
+head_departs_once bytes TooLong Part p q = let short = q.0.short in absurd (omega arith)
+head_departs_once bytes Part Syntax p (inl q) = let ended_line = p.0.ended in let open_line = q.1 in absurd cc
+head_departs_once bytes Part Syntax p (inr q) = absurd (q.1.1 p.1)
+head_departs_once bytes Syntax Part (inl p) q = let ended_line = q.0.ended in let open_line = p.1 in absurd cc
+head_departs_once bytes Syntax Part (inr p) q = absurd (p.1.1 q.1)
 head_departs_once bytes Syntax TooLong (inl p) q = let short = p.0 in absurd (omega arith)
 head_departs_once bytes Syntax TooLong (inr p) q = let short = p.0.short in absurd (omega arith)
 head_departs_once bytes TooLong Syntax p (inl q) = let short = q.0 in absurd (omega arith)

@@ -3,7 +3,7 @@ use Rattle.std.specs.Prelude.{◌≡◌, ℕ, Bool, true, false, List, ◌++◌,
 use Rattle.std.specs.Fmt.{decimal}
 use Rattle.wire_base.specs.Tally.{CountedFault}
 use Rattle.capture.specs.declared.fault.Departure.{Departure}
-use Rattle.capture.specs.declared.fault.Departure.TheVariants.{Syntax, TooLong, TooMany}
+use Rattle.capture.specs.declared.fault.Departure.TheVariants.{Syntax, TooLong, TooMany, Part}
 use Rattle.capture.specs.declared.fault.LineFault.{LineFault}
 use Rattle.capture.specs.declared.fault.LineFault.TheVariants as lines
 use Rattle.capture.specs.declared.fault.CaptureFault.{CaptureFault}
@@ -14,6 +14,7 @@ abbrev pub kind_words : Departure → List ℕ
 kind_words Syntax = codes "syntax"
 kind_words TooLong = codes "too long"
 kind_words TooMany = codes "too many"
+kind_words Part = codes "part"
 
 -- `line 3: syntax` and its kin
 abbrev pub line_fault_words : Departure → ℕ → List ℕ

@@ -7,6 +7,7 @@ pub mod Sided
 pub mod Lines
 pub mod Faulty
 pub mod Reader
+pub mod Opening
 pub mod SoFar
 pub mod ListLines
 pub mod ListReader

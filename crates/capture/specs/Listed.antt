@@ -6,7 +6,7 @@ use Rattle.std.specs.Io.KnownBytes.{Consumes}
 use Rattle.capture.specs.declared.limit.TheConstants.{MAX_LINE}
 use Rattle.capture.specs.declared.fault.Departure.{Departure}
 use Rattle.capture.specs.declared.fault.CaptureFault.{CaptureFault}
-use Rattle.capture.specs.declared.fault.Departure.TheVariants.{Syntax, TooLong, TooMany}
+use Rattle.capture.specs.declared.fault.Departure.TheVariants.{Syntax, TooLong, TooMany, Part}
 use Rattle.capture.specs.Text.{address_text, spaced, ended}
 use Rattle.capture.specs.Range.{IsNode}
 use Rattle.capture.specs.Reading.{after, nodes_at}
@@ -54,6 +54,7 @@ ListHeadDeparts first_words TooMany text = ⊥
 ListHeadDeparts first_words TooLong text = MAX_LINE < length (first_line text)
 ListHeadDeparts first_words Syntax text =
     ((length (first_line text) ≤ MAX_LINE) × (has_lf text ≡ false)) ⊎ (IsWhole text × IsNoHead first_words (first_line text))
+ListHeadDeparts first_words Part text = ⊥
 
 -- What `open_list` gives, where these bytes were to come, and these are: a reader of the lines after the head, and the addresses.
 abbrev pub ListOpens : (first_words : List ℕ) → Option (List ℕ) → Option (List ℕ) → Result (LineState × ℕ × ℕ) CaptureFault → Type 0

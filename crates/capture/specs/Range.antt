@@ -11,10 +11,10 @@ use Rattle.capture_record.specs.declared.record.Record.{Record}
 use Rattle.capture_record.specs.declared.record.Record.TheVariants.{Sent, Received, Noise, User}
 use Rattle.capture_record.specs.Range.{IsRecord}
 use Rattle.capture.specs.declared.hint.HintForm.{HintForm}
-use Rattle.capture.specs.declared.hint.HintForm.TheVariants.{Number, Distance, Wide}
+use Rattle.capture.specs.declared.hint.HintForm.TheVariants.{Number, Distance, Wide, Part}
 use Rattle.capture.specs.declared.format.Format.{Format}
 use Rattle.capture.specs.declared.format.Format.TheVariants.{One, Two, Three}
-use Rattle.capture.specs.Text.{capture_text, format_of}
+use Rattle.capture.specs.Text.{capture_text, format_of, part_text}
 
 -- the address of a node: area 1 to 63, node 1 to 1,023
 pub record IsNode (address : ℕ) : Type 0 where
@@ -27,6 +27,7 @@ abbrev pub FormFits : HintForm → Type 0
 FormFits Number = Unit {0}
 FormFits (Distance mark) = mark ≤ MAX_MARK
 FormFits Wide = Unit {0}
+FormFits Part = Unit {0}
 
 -- ---- the records of a format
 
@@ -93,3 +94,8 @@ pub record IsTextIn (format : Format) (own peer : ℕ) (records : List Record) (
 pub record IsText (own peer : ℕ) (records : List Record) (bytes : List ℕ) : Type 0 where
   pub format : Format
   pub is_text : IsTextIn format own peer records bytes
+
+-- these bytes are the text of this head and these records, which are a part of a run
+pub record IsPartText (own peer : ℕ) (records : List Record) (bytes : List ℕ) : Type 0 where
+  pub fits : IsCapture own peer records
+  pub spelled : bytes ≡ part_text own peer records

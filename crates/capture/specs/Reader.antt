@@ -9,11 +9,12 @@ use Rattle.capture.specs.declared.phase.Phase.{Phase}
 use Rattle.capture.specs.declared.phase.Phase.TheVariants as phases
 use Rattle.capture_record.specs.declared.record.Record.{Record}
 use Rattle.capture.specs.declared.hint.HintForm.{HintForm}
-use Rattle.capture.specs.Text.{head_line, record_line, first_form, form_after, format_of}
+use Rattle.capture.specs.declared.hint.HintForm.TheVariants as forms
+use Rattle.capture.specs.Text.{head_line, part_head_line, record_line, first_form, form_after, format_of}
 use Rattle.capture_record.specs.Range.{IsRecord}
 use Rattle.capture.specs.Range.{IsInForm, IsNode}
 use Rattle.capture.specs.Departing.{HeadDeparts, RecordDeparts}
-use Rattle.capture.specs.Lines.{to_come}
+use Rattle.capture.specs.Lines.{LineState, to_come}
 
 -- the head, the form of the next hint, the count of records so far, whether more may come, the bytes read ahead, and the line and the bytes of
 -- the record that `advance` read last
@@ -46,6 +47,12 @@ Opens before after (Ok state) =
     × Consumes before (to_come state.unread after) (head_line (format_of state.form) state.own state.peer)
     × (state.form ≡ first_form (format_of state.form))
 Opens before after (Err fault) = FaultShows HeadDeparts 1 before fault
+
+-- What is given where the head was that of a part of a run.
+abbrev pub OpensPart : Option (List ℕ) → Option (List ℕ) → CaptureState → Type 0
+OpensPart before after state =
+    IsNode state.own × IsNode state.peer × (state.records ≡ 0) × (state.phase ≡ phases.Reading)
+    × Consumes before (to_come state.unread after) (part_head_line state.own state.peer) × (state.form ≡ forms.Part)
 
 -- so many lines were taken, and the next hint has this form
 pub record Turn : Type 0 where

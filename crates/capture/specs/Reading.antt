@@ -14,7 +14,7 @@ use Rattle.capture_record.specs.declared.fate.Fate.TheVariants.{NotKept, Kept, D
 use Rattle.capture_record.specs.declared.record.Record.{Record}
 use Rattle.capture_record.specs.declared.record.Record.TheVariants.{Sent, Received, Noise, User}
 use Rattle.capture.specs.declared.hint.HintForm.{HintForm}
-use Rattle.capture.specs.declared.hint.HintForm.TheVariants.{Number, Distance, Wide}
+use Rattle.capture.specs.declared.hint.HintForm.TheVariants.{Number, Distance, Wide, Part}
 use Rattle.capture.specs.declared.format.Format.{Format}
 use Rattle.capture.specs.declared.format.Format.TheVariants.{One, Two, Three}
 use Rattle.capture.specs.Text.{format_text}
@@ -121,6 +121,7 @@ unfoldable pub hint_at : HintForm → List ℕ → Option ℕ
 hint_at Number text = number_at MAX_HINT text
 hint_at Wide text = number_at MAX_HINT text
 hint_at (Distance mark) text = or_else (after (codes "-") text) (hint_below mark) (hint_above mark text)
+hint_at Part text = if bytes_eq text (codes "-") then Some 0 else option_map (λ number. number + 1) (number_at (MAX_HINT - 1) text)
 
 -- two link addresses
 unfoldable pub links_at : List ℕ → Result (ℕ × ℕ) Departure
@@ -156,6 +157,7 @@ abbrev pub is_wide : HintForm → Bool
 is_wide Number = false
 is_wide (Distance mark) = false
 is_wide Wide = true
+is_wide Part = true
 
 -- an event that format 3 alone has
 unfoldable pub wide_event_at : List ℕ → Result Event Departure
@@ -224,3 +226,16 @@ head_at text =
     (or_else (after (format_text Two) text) (headed Two)
     (or_else (after (format_text Three) text) (headed Three)
     None))
+
+-- the two addresses of this text, where it ends in `part`
+unfoldable pub part_nodes_at : List ℕ → Option (ℕ × ℕ)
+part_nodes_at text =
+    option_and_then (λ first.
+    option_and_then (λ second.
+    option_and_then (λ own.
+    option_and_then (λ peer. if bytes_eq second.1 (codes "part") then Some (own, peer) else None)
+    (address_at second.0)) (address_at first.0)) (cut_at 32 first.1)) (cut_at 32 text)
+
+-- the head of a part of a run
+unfoldable pub part_head_at : List ℕ → Option (ℕ × ℕ)
+part_head_at text = option_and_then part_nodes_at (after (codes "ddcap 4 ") text)

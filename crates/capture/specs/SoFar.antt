@@ -5,7 +5,8 @@ use Rattle.std.specs.Io.KnownBytes.{Consumes}
 use Rattle.capture.specs.declared.fault.Departure.{Departure}
 use Rattle.capture_record.specs.declared.record.Record.{Record}
 use Rattle.capture.specs.declared.hint.HintForm.{HintForm}
-use Rattle.capture.specs.Text.{capture_text, first_form, form_after, form_behind, format_of}
+use Rattle.capture.specs.declared.hint.HintForm.TheVariants.{Part}
+use Rattle.capture.specs.Text.{capture_text, part_text, first_form, form_after, form_behind, format_of}
 use Rattle.capture.specs.Range.{IsCapture, IsInForm}
 use Rattle.capture.specs.Departing.{HeadDeparts, RecordDeparts}
 
@@ -39,6 +40,12 @@ pub record IsReadSoFar (text : Option (List ℕ)) (read : ReadSoFar) : Type 0 wh
   pub lines : AllByRecursion (IsInForm read.form) read.records
   pub begins : Consumes text (coming read.behind) (capture_text (format_of read.form) read.own read.peer read.records)
   pub form_is : read.form ≡ form_behind (first_form (format_of read.form)) read.records
+
+-- The text of a part of a run begins so, and goes on with what is to come, if anything is.
+pub record IsPartSoFar (text : Option (List ℕ)) (read : ReadSoFar) : Type 0 where
+  pub fits : IsCapture read.own read.peer read.records
+  pub begins : Consumes text (coming read.behind) (part_text read.own read.peer read.records)
+  pub form_is : read.form ≡ Part
 
 -- all records of a capture that begins with these, and has no more where its text has ended
 abbrev pub GoesOnBy : Behind → List Record → List Record → Type 0

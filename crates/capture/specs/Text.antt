@@ -1,5 +1,5 @@
 -- The text of a capture, in each format: each line's words, and the lines one after another.
-use Rattle.std.specs.Prelude.{ℕ, ◌+◌, ◌-◌, ◌/◌, ◌%◌, nat_le, if◌then◌else◌, List, [], ◌∷◌, ◌++◌, codes}
+use Rattle.std.specs.Prelude.{ℕ, ◌+◌, ◌-◌, ◌/◌, ◌%◌, ◌==◌, nat_le, if◌then◌else◌, List, [], ◌∷◌, ◌++◌, codes}
 use Rattle.std.specs.Fmt.{decimal}
 use Rattle.hex.specs.Hex.{encode_lower}
 use Rattle.capture_record.specs.declared.event.Event.{Event}
@@ -10,7 +10,7 @@ use Rattle.capture_record.specs.declared.fate.Fate.TheVariants.{NotKept, Kept, D
 use Rattle.capture_record.specs.declared.record.Record.{Record}
 use Rattle.capture_record.specs.declared.record.Record.TheVariants.{Sent, Received, Noise, User}
 use Rattle.capture.specs.declared.hint.HintForm.{HintForm}
-use Rattle.capture.specs.declared.hint.HintForm.TheVariants.{Number, Distance, Wide}
+use Rattle.capture.specs.declared.hint.HintForm.TheVariants.{Number, Distance, Wide, Part}
 use Rattle.capture.specs.declared.format.Format.{Format}
 use Rattle.capture.specs.declared.format.Format.TheVariants.{One, Two, Three}
 
@@ -23,11 +23,13 @@ bytes_text (b ∷ bs) = encode_lower (b ∷ bs)
 abbrev pub address_text : ℕ → List ℕ
 address_text address = decimal (address / 1024) ++ 46 ∷ decimal (address % 1024)
 
--- the hint of a receipt: its number; or in format 2 its distance from the mark, with `-` before it where it lies below
+-- the hint of a receipt: its number; or in format 2 its distance from the mark, with `-` before it where it lies below; in a part of a run 0 is
+-- `-`, of a unit that was sent before the other capture begins, and any other is one more than the number of the other capture's `s` line
 abbrev pub hint_text : HintForm → ℕ → List ℕ
 hint_text Number hint = decimal hint
 hint_text Wide hint = decimal hint
 hint_text (Distance mark) hint = if nat_le mark hint then decimal (hint - mark) else 45 ∷ decimal (mark - hint)
+hint_text Part hint = if hint == 0 then codes "-" else decimal (hint - 1)
 
 -- two parts with one space between them
 abbrev pub spaced : List ℕ → List ℕ → List ℕ
@@ -88,12 +90,19 @@ format_text Three = codes "ddcap 3 "
 abbrev pub head_text : Format → ℕ → ℕ → List ℕ
 head_text format own peer = format_text format ++ spaced (address_text own) (address_text peer)
 
+-- the head of a part of a run, without its LF
+abbrev pub part_head_text : ℕ → ℕ → List ℕ
+part_head_text own peer = codes "ddcap 4 " ++ spaced (address_text own) (spaced (address_text peer) (codes "part"))
+
 -- a line is its text and one LF
 abbrev pub ended : List ℕ → List ℕ
 ended text = text ++ 10 ∷ []
 
 abbrev pub head_line : Format → ℕ → ℕ → List ℕ
 head_line format own peer = ended (head_text format own peer)
+
+abbrev pub part_head_line : ℕ → ℕ → List ℕ
+part_head_line own peer = ended (part_head_text own peer)
 
 abbrev pub record_line : HintForm → Record → List ℕ
 record_line form r = ended (record_text form r)
@@ -106,11 +115,12 @@ format_number One = 1
 format_number Two = 2
 format_number Three = 3
 
--- the format that has such hints
+-- the format that has such hints; a part of a run has the lines of format 3, but for hints
 abbrev pub format_of : HintForm → Format
 format_of Number = One
 format_of (Distance mark) = Two
 format_of Wide = Three
+format_of Part = Three
 
 -- in format 2 the mark is 0 at first
 abbrev pub first_form : Format → HintForm
@@ -129,6 +139,7 @@ abbrev pub form_after : HintForm → Record → HintForm
 form_after Number r = Number
 form_after (Distance mark) r = Distance (mark_after mark r)
 form_after Wide r = Wide
+form_after Part r = Part
 
 abbrev pub form_behind : HintForm → List Record → HintForm
 form_behind form [] = form
@@ -142,3 +153,7 @@ record_lines form (r ∷ rs) = record_line form r ++ record_lines (form_after fo
 -- the whole text of a head and records
 abbrev pub capture_text : Format → ℕ → ℕ → List Record → List ℕ
 capture_text format own peer rs = head_line format own peer ++ record_lines (first_form format) rs
+
+-- the whole text of a head and records that are a part of a run
+abbrev pub part_text : ℕ → ℕ → List Record → List ℕ
+part_text own peer rs = part_head_line own peer ++ record_lines Part rs

@@ -2,6 +2,7 @@
 pub mod Block
 pub mod Captured
 pub mod PageBlock
+pub mod Lanes
 pub mod Spelled
 pub mod Outlets
 pub mod ListTurn

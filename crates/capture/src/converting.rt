@@ -175,11 +175,14 @@ fn put_hint(page: &mut Page, form: HintForm, hint: u64)
     ensures bytes { page.new ≡ page.old ++ hint_text form hint }
     ensures len { length page.new ≤ length page.old + 41 }
 {
-    let (below, number) = form.spelled(hint);
-    if below {
-        page.put(b"-");
-        page.put_number(number);
-        return;
+    match form {
+        HintForm::Number | HintForm::Wide => page.put_number(hint),
+        HintForm::Distance { mark } if mark <= hint => page.put_number(hint - mark),
+        HintForm::Distance { mark } => {
+            page.put(b"-");
+            page.put_number(mark - hint);
+        }
+        HintForm::Part if hint == 0 => page.put(b"-"),
+        HintForm::Part => page.put_number(hint - 1),
     }
-    page.put_number(number);
 }

@@ -7,51 +7,92 @@ ghost use Rattle.std.specs.List.{list_all};
 ghost use Rattle.hex.specs.Hex.{IsBytes, lower_digits};
 ghost use Rattle.capture.specs.inner.Spelled.{IsSpelled};
 ghost use Rattle.capture.specs.Entries.{front_of};
-ghost use Rattle.capture.specs.declared.digits.TheConstants.{EIGHT};
+ghost use Rattle.capture.specs.declared.digits.TheConstants.{EIGHT, SIXTEEN};
 ghost use Rattle.capture.specs.Reading.{Gives, bytes_at, is_digit, pairs_at};
 
 use crate::fault::{Departure, PartFault};
+use crate::lanes::{are_values, eight_of, sixteen_of, values_of};
 use capture_record::Bytes;
 use std::alloc::Global;
+use std::simd::prelude::*;
 
-// As many bytes are read at once.
+// As many bytes are read at once: of a long text, and of a short one.
+const SIXTEEN: usize = 16;
+
 const EIGHT: usize = 8;
 
-// Reads pairs of digits 0 to 9 and a to f: eight bytes at a time, the last eight too, some of which may have been read before.
+// Reads pairs of digits 0 to 9 and a to f: sixteen bytes at a time, or eight, the last ones too, some of which may have been read before.
 fn pairs_into(text: &[u8], bytes: &mut [u8]) -> bool
     requires long { length text.now ≡ 2 * length bytes.old }
     requires some { 0 < length bytes.old }
     ensures { pairs_at text.now ≡ (if result then Some bytes.new else None) }
 {
     let len = bytes.len();
-    if len < EIGHT {
-        return each_into(text, bytes);
+    if len < SIXTEEN {
+        return few_into(text, bytes);
     }
-    for block in 0..len / EIGHT {
-        if !eight_into(text, block * EIGHT, bytes) {
+    for block in 0..len / SIXTEEN {
+        if !sixteen_into(text, block * SIXTEEN, bytes) {
             return false;
         }
     }
-    if len % EIGHT == 0 {
+    if len % SIXTEEN == 0 {
+        return true;
+    }
+    sixteen_into(text, len - SIXTEEN, bytes)
+}
+
+// Reads the sixteen bytes from this place on.
+#[inline(always)]
+fn sixteen_into(text: &[u8], at: usize, bytes: &mut [u8]) -> bool
+    requires long { length text.now ≡ 2 * length bytes.old }
+    requires within { at + SIXTEEN ≤ length bytes.old }
+    requires fit { IsBytes bytes.old }
+    ensures spelled { IsTrue result → IsSpelled bytes.old text.now at → IsSpelled bytes.new text.now (at + SIXTEEN) }
+    ensures others { result ≡ false → list_all is_digit text.now ≡ false }
+    ensures bytes { IsBytes bytes.new }
+    ensures length { length bytes.new ≡ length bytes.old }
+{
+    let values = values_of(u8x32::from_slice(&text[2 * at..]));
+    sixteen_of(values).copy_to_slice(&mut bytes[at..]);
+    are_values(values)
+}
+
+// Reads fewer than sixteen bytes.
+#[inline(always)]
+fn few_into(text: &[u8], bytes: &mut [u8]) -> bool
+    requires long { length text.now ≡ 2 * length bytes.old }
+    requires some { 0 < length bytes.old }
+    requires few { length bytes.old < SIXTEEN }
+    ensures { pairs_at text.now ≡ (if result then Some bytes.new else None) }
+{
+    let len = bytes.len();
+    if len < EIGHT {
+        return each_into(text, bytes);
+    }
+    if !eight_into(text, 0, bytes) {
+        return false;
+    }
+    if len == EIGHT {
         return true;
     }
     eight_into(text, len - EIGHT, bytes)
 }
 
-// Reads the eight bytes from this place on. All are read before one is written, so that their digits are read at once.
+// Reads the eight bytes from this place on.
 #[inline(always)]
 fn eight_into(text: &[u8], at: usize, bytes: &mut [u8]) -> bool
     requires long { length text.now ≡ 2 * length bytes.old }
     requires within { at + EIGHT ≤ length bytes.old }
+    requires fit { IsBytes bytes.old }
     ensures spelled { IsTrue result → IsSpelled bytes.old text.now at → IsSpelled bytes.new text.now (at + EIGHT) }
     ensures others { result ≡ false → list_all is_digit text.now ≡ false }
     ensures bytes { IsBytes bytes.new }
     ensures length { length bytes.new ≡ length bytes.old }
 {
-    let mut eight = [0u8; EIGHT];
-    let all = each_into(&text[2 * at..2 * (at + EIGHT)], &mut eight);
-    bytes[at..at + EIGHT].copy_from_slice(&eight);
-    all
+    let values = values_of(u8x16::from_slice(&text[2 * at..]));
+    eight_of(values).copy_to_slice(&mut bytes[at..]);
+    are_values(values)
 }
 
 // Reads pairs of digits, and goes on after what is none: with no way out of the loop, many are read at once.

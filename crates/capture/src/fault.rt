@@ -5,7 +5,7 @@ ghost use Rattle.std.specs.Prelude.{◌≡◌, ◌≤◌, length};
 use std::fmt;
 use thiserror::Error;
 
-/// How a line departs from the format. Printed as `syntax`, `too long` or `too many`.
+/// How a line departs from the format. Printed as `syntax`, `too long`, `too many` or `part`.
 #[derive(Clone, Copy, Debug, PartialEq, Eq)]
 pub enum Departure {
     /// The line is none of the format's, or has no LF.
@@ -14,6 +14,8 @@ pub enum Departure {
     TooLong,
     /// The line comes after as many as a text may have.
     TooMany,
+    /// The line is the head of a part of a run, where that of a whole capture is wanted.
+    Part,
 }
 
 impl Departure {
@@ -28,6 +30,7 @@ impl Departure {
             Departure::Syntax => b"syntax",
             Departure::TooLong => b"too long",
             Departure::TooMany => b"too many",
+            Departure::Part => b"part",
         }
     }
 }
@@ -43,6 +46,7 @@ impl fmt::Display for Departure {
             Departure::Syntax => f.write_str("syntax"),
             Departure::TooLong => f.write_str("too long"),
             Departure::TooMany => f.write_str("too many"),
+            Departure::Part => f.write_str("part"),
         }
     }
 }

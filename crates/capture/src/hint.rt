@@ -1,11 +1,10 @@
 //! How a line spells the hint of a receipt.
 
-ghost use Rattle.std.specs.Prelude.{◌≡◌, ℕ, [], ◌∷◌, List, if◌then◌else◌};
-ghost use Rattle.std.specs.Fmt.{decimal};
+ghost use Rattle.std.specs.Prelude.{◌≡◌, ℕ, [], List};
 ghost use Rattle.capture_record.specs.Entries.{record_with};
 ghost use Rattle.capture_record.specs.Range.{NumbersFit};
 ghost use Rattle.capture.specs.Reading.{is_wide};
-ghost use Rattle.capture.specs.Text.{form_after, format_of, hint_text, mark_after};
+ghost use Rattle.capture.specs.Text.{form_after, format_of, mark_after};
 
 use crate::format::Format;
 use capture_record::{Entry, Record};
@@ -21,17 +20,20 @@ pub enum HintForm {
     Distance { mark: u64 },
     /// The hint itself, as a decimal number; and the lines that format 3 alone has are there too: format 3.
     Wide,
+    /// A part of a run: the lines are those of format 3, but for hints. `-` is the hint 0, of a unit that was sent before the other capture
+    /// begins, and the number k, of the other capture's line `s` k, is the hint k + 1.
+    Part,
 }
 
 impl HintForm {
-    /// The format that has such hints. Takes no memory.
+    /// The format that has such hints; of a part of a run format 3, which has the same lines but for hints. Takes no memory.
     pub fn format(self) -> Format
         ensures { result ≡ format_of self }
     {
         match self {
             HintForm::Number => Format::One,
             HintForm::Distance { mark: _ } => Format::Two,
-            HintForm::Wide => Format::Three,
+            HintForm::Wide | HintForm::Part => Format::Three,
         }
     }
 
@@ -42,19 +44,7 @@ impl HintForm {
     {
         match self {
             HintForm::Number | HintForm::Distance { .. } => false,
-            HintForm::Wide => true,
-        }
-    }
-
-    /// How a line spells this hint: whether `-` comes before the number, and the number. Takes no memory.
-    #[inline(always)]
-    pub(crate) fn spelled(self, hint: u64) -> (bool, u64)
-        ensures { hint_text self hint ≡ (if result.0 then 45 ∷ decimal result.1 else decimal result.1) }
-    {
-        match self {
-            HintForm::Number | HintForm::Wide => (false, hint),
-            HintForm::Distance { mark } if mark <= hint => (false, hint - mark),
-            HintForm::Distance { mark } => (true, mark - hint),
+            HintForm::Wide | HintForm::Part => true,
         }
     }
 
@@ -67,6 +57,7 @@ impl HintForm {
         match self {
             HintForm::Number => HintForm::Number,
             HintForm::Wide => HintForm::Wide,
+            HintForm::Part => HintForm::Part,
             HintForm::Distance { mark } => HintForm::Distance {
                 mark: next_mark(mark, entry),
             },
@@ -81,6 +72,7 @@ impl HintForm {
         match self {
             HintForm::Number => HintForm::Number,
             HintForm::Wide => HintForm::Wide,
+            HintForm::Part => HintForm::Part,
             HintForm::Distance { mark } => HintForm::Distance {
                 mark: next_mark_of(mark, record),
             },

@@ -13,6 +13,7 @@ mod event_words;
 mod fault;
 mod format;
 mod hint;
+mod lanes;
 mod laws;
 mod limit;
 mod line_reader;
@@ -22,8 +23,12 @@ mod list_item;
 mod list_laws;
 mod list_reader;
 mod number;
+mod opened;
+mod opening;
 mod page;
 mod part;
+mod part_head;
+mod part_text;
 mod phase;
 mod reader;
 mod record_words;
@@ -47,19 +52,24 @@ pub use laws::{
 };
 pub use limit::{MAX_LINE, MAX_MARK, MAX_RECORDS};
 pub use line_reader::LineReader;
-pub use line_words::{put_head, put_head_line};
+pub use line_words::{put_head, put_head_line, put_part_head_line};
 pub use list_head::open_list;
 pub use list_item::ListItem;
 pub use list_laws::{known_list, list_read_on, one_list, one_list_departure};
 pub use list_reader::ListReader;
 pub use number::{number_of, positive_of};
+pub use opened::Opened;
+pub use opening::open_either;
 pub use page::{PAGE_SIZE, Page};
 pub use part::{after, cut_at};
+pub use part_head::part_head_of;
+pub use part_text::{one_part, part_read_on, whole_part};
 pub use phase::Phase;
 pub use reader::CaptureReader;
 pub use record_words::{head_of, record_of};
 pub use side_letter::side_of;
 pub use so_far::{text_read_on, whole_text};
 pub use writer::{
-    write_head, write_head_2, write_head_3, write_record, write_record_2, write_record_3,
+    write_head, write_head_2, write_head_3, write_part_head, write_part_record, write_record,
+    write_record_2, write_record_3,
 };

@@ -4,7 +4,7 @@ ghost use Rattle.std.specs.Prelude.{◌≡◌, ◌≤◌, ◌++◌, length, OnOk
 ghost use Rattle.std.specs.Fmt.{decimal};
 ghost use Rattle.hex.specs.Hex.{encode_lower};
 ghost use Rattle.capture_record.specs.declared.limit.TheConstants.{MAX_MESSAGE};
-ghost use Rattle.capture.specs.Text.{address_text, bytes_text, format_text, head_line, head_text, hint_text, spaced};
+ghost use Rattle.capture.specs.Text.{address_text, bytes_text, format_text, head_line, head_text, hint_text, part_head_line, spaced};
 
 use crate::format::Format;
 use crate::hint::HintForm;
@@ -21,12 +21,19 @@ fn put_number(line: &mut Vec<u8>, number: u64) -> Result<(), AllocError>
 fn put_hint(line: &mut Vec<u8>, form: HintForm, hint: u64) -> Result<(), AllocError>
     ensures { OnOk result (line.new.items ≡ line.old.items ++ hint_text form hint) }
 {
-    let (below, number) = form.spelled(hint);
-    if below {
-        line.push(b'-')?;
-        return put_number(line, number);
+    match form {
+        HintForm::Number | HintForm::Wide => put_number(line, hint),
+        HintForm::Distance { mark } if mark <= hint => put_number(line, hint - mark),
+        HintForm::Distance { mark } => {
+            line.push(b'-')?;
+            put_number(line, mark - hint)
+        }
+        HintForm::Part if hint == 0 => {
+            line.push(b'-')?;
+            Ok(())
+        }
+        HintForm::Part => put_number(line, hint - 1),
     }
-    put_number(line, number)
 }
 
 fn put_address(line: &mut Vec<u8>, address: u16) -> Result<(), AllocError>
@@ -151,6 +158,17 @@ pub fn put_head_line(
     put_head(line, format, own, peer)?;
     line.push(b'\n')?;
     Ok(())
+}
+
+/// Puts the line of the head of a part of a run, `ddcap 4 OWN PEER part`, with its LF, at the end. `AllocError` as for [`put_head`].
+pub fn put_part_head_line(line: &mut Vec<u8>, own: u16, peer: u16) -> Result<(), AllocError>
+    ensures { OnOk result (line.new.items ≡ line.old.items ++ part_head_line own peer) }
+{
+    line.extend_from_slice(b"ddcap 4 ")?;
+    put_address(line, own)?;
+    line.push(b' ')?;
+    put_address(line, peer)?;
+    line.extend_from_slice(b" part\n")
 }
 
 /// Puts the words of a capture's head, in this format and of these node addresses (the area times 1,024, plus the node), without its LF,

@@ -10,23 +10,27 @@ ghost use Rattle.capture.specs.Entries.{recorded, recorded_in};
 ghost use Rattle.capture.specs.Faulty.{CountsReads, is_failed_read};
 ghost use Rattle.capture.specs.Range.{FormFits};
 ghost use Rattle.capture.specs.Reader.{NextGives, Opens, TakesRecord, WhereReadFails};
+ghost use Rattle.capture.specs.inner.Captured.{state_at};
 ghost use Rattle.capture.specs.Text.{format_number, format_of, record_text};
 
 use crate::fault::{CaptureFault, Departure, LineFault};
+use crate::hint::HintForm;
 use crate::limit::MAX_RECORDS;
 use crate::line_reader::LineReader;
+use crate::opened::Opened;
+use crate::opening::open_either;
 use crate::phase::Phase;
-use crate::record_words::{head_of, line_into};
+use crate::record_words::line_into;
 use crate::wording::Wording;
 use capture_record::{Bytes, Entry, MAX_MESSAGE, Record};
-use std::alloc::Global;
+use std::alloc::{AllocError, Global};
 use std::io::Read;
 use std::marker::Model;
 use wire_base::Tally;
 
-// A first line that is no head.
-const NO_HEAD: CaptureFault = CaptureFault::Departs {
-    kind: Departure::Syntax,
+// A first line that is the head of a part of a run.
+const PART_HEAD: CaptureFault = CaptureFault::Departs {
+    kind: Departure::Part,
     line: 1,
 };
 
@@ -103,9 +107,10 @@ impl CaptureReader {
     /// Reads the head, `ddcap 1 OWN PEER`, or with the number 2 or 3, and what the reader gives with it: a reader of the records after it.
     ///
     /// Faults, after which the reader has given what was read ahead: `Departs` at line 1, with `TooLong` where more than 131,081 bytes
-    /// come before the first LF or the end, and with `Syntax` where the first line has no LF, as in an empty text, or is no head;
-    /// `Read` where a call of the reader failed, and at any other answer its count of them is as it was; `OutOfMemory` where there is no
-    /// memory for the reader's block or for its room for bytes. Where a read failed the reader had given no whole line.
+    /// come before the first LF or the end, with `Syntax` where the first line has no LF, as in an empty text, or is no head, and with `Part` where
+    /// it is that of a part of a run, which [`open_either`] reads; `Read` where a call of the reader failed, and at any other answer its count of
+    /// them is as it was; `OutOfMemory` where there is no memory for the reader's block or for its room for bytes. Where a read failed the reader
+    /// had given no whole line.
     pub fn open<R: Read>(
         alloc: Global,
         reader: &mut Tally<R>,
@@ -115,35 +120,36 @@ impl CaptureReader {
             (IsCutBehind (R.remaining (tally_lent reader.old)) (R.remaining (tally_lent reader.new))) }
         ensures reads { CountsReads (is_failed_read result) (tally_faults reader.old) (tally_faults reader.new) }
     {
-        let Ok(mut lines) = LineReader::new(alloc) else {
-            return Err(CaptureFault::OutOfMemory);
-        };
-        match lines.next(1, reader) {
-            Ok(Some(len)) => match head_of(lines.line(len)) {
-                Some((format, own, peer)) => {
-                    lines.skip(len);
-                    let Ok(room) = vec![in alloc; 0u8; MAX_MESSAGE] else {
-                        return Err(CaptureFault::OutOfMemory);
-                    };
-                    Ok(CaptureReader {
-                        alloc,
-                        lines,
-                        own,
-                        peer,
-                        phase: Phase::Reading,
-                        wording: Wording {
-                            form: format.first_form(),
-                        },
-                        room,
-                        len: 0,
-                    })
-                }
-                None => Err(NO_HEAD),
-            },
-            Ok(None) => Err(NO_HEAD),
-            Err(LineFault::Departs(kind)) => Err(CaptureFault::Departs { kind, line: 1 }),
-            Err(LineFault::Read) => Err(CaptureFault::Read),
+        match open_either(alloc, reader) {
+            Ok(Opened::Whole(capture)) => Ok(capture),
+            Ok(Opened::Part(_)) => Err(PART_HEAD),
+            Err(fault) => Err(fault),
         }
+    }
+
+    /// A reader of the records after the head, whose line was left behind. `AllocError` where there is no memory for its room for bytes.
+    pub(crate) fn behind_head(
+        alloc: Global,
+        lines: LineReader,
+        form: HintForm,
+        own: u16,
+        peer: u16,
+    ) -> Result<CaptureReader, AllocError>
+        requires head { lines.taken ≡ 1 }
+        requires form { FormFits form }
+        ensures { IfOk result (λ capture. capture ≡ state_at own peer form lines) }
+    {
+        let room = vec![in alloc; 0u8; MAX_MESSAGE]?;
+        Ok(CaptureReader {
+            alloc,
+            lines,
+            own,
+            peer,
+            phase: Phase::Reading,
+            wording: Wording { form },
+            room,
+            len: 0,
+        })
     }
 
     /// The address of the node whose capture it is. Takes no memory.
@@ -153,7 +159,7 @@ impl CaptureReader {
         self.own
     }
 
-    /// The number of the format that the head names: 1, 2 or 3. Takes no memory.
+    /// The number of the format that the head names: 1, 2 or 3; of a part of a run 3, whose lines it has. Takes no memory.
     pub fn format(&self) -> u8
         ensures { result ≡ format_number (format_of self.now.form) }
     {

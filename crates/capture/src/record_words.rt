@@ -31,7 +31,20 @@ fn hint_of(form: HintForm, text: &[u8]) -> Option<u64>
     match form {
         HintForm::Number | HintForm::Wide => number_of(text, MAX_HINT),
         HintForm::Distance { mark } => hint_by_distance(mark, text),
+        HintForm::Part => hint_in_part(text),
     }
+}
+
+// The hint in a part of a run: 0 for `-`, and else one more than the number.
+#[tactic(auto, unfolding(crate::specs::Reading::hint_at))]
+fn hint_in_part(text: &[u8]) -> Option<u64>
+    ensures { result ≡ hint_at HintForm.Part text.now }
+{
+    if text == b"-".as_slice() {
+        return Some(0);
+    }
+    let number = number_of(text, MAX_HINT - 1)?;
+    Some(number + 1)
 }
 
 // The hint at this distance from the mark.
@@ -59,7 +72,7 @@ fn receipt_of(form: HintForm, text: &[u8]) -> Option<(u64, &[u8])>
 {
     match form {
         HintForm::Number | HintForm::Wide => receipt_by_number(text),
-        HintForm::Distance { .. } => match receipt_by_distance(form, text) {
+        HintForm::Distance { .. } | HintForm::Part => match receipt_in_form(form, text) {
             Some((hint, bytes)) => Some((hint, bytes)),
             None => None,
         },
@@ -80,7 +93,7 @@ fn receipt_by_number(text: &[u8]) -> Option<(u64, &[u8])>
 }
 
 #[tactic(auto, unfolding(crate::specs::Reading::receipt_at))]
-fn receipt_by_distance(form: HintForm, text: &[u8]) -> Option<(u64, &[u8])>
+fn receipt_in_form(form: HintForm, text: &[u8]) -> Option<(u64, &[u8])>
     requires { FormFits form }
     ensures { (fate : Became) → receipt_at form fate text.now ≡ told (option_map (λ parts. (Received fate parts.0, parts.1.now)) result) }
 {

@@ -23,7 +23,7 @@ impl Wording {
         ensures { (bytes : List ℕ) → self.new.form ≡ form_after self.old.form (record_with entry bytes) }
     {
         match self.form {
-            HintForm::Number | HintForm::Wide => {}
+            HintForm::Number | HintForm::Wide | HintForm::Part => {}
             HintForm::Distance { .. } => self.form = self.form.after(entry),
         }
     }

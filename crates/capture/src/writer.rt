@@ -4,7 +4,7 @@ ghost use Rattle.std.specs.Prelude.{◌≡◌, ◌≤◌, Err, IfOk, OnOk};
 ghost use Rattle.std.specs.Io.KnownBytes.{Appends};
 ghost use Rattle.wire_base.specs.Tally.{tally_faults, tally_lent};
 ghost use Rattle.capture.specs.declared.limit.TheConstants.{MAX_MARK};
-ghost use Rattle.capture.specs.Text.{head_line, mark_after, record_line};
+ghost use Rattle.capture.specs.Text.{head_line, mark_after, part_head_line, record_line};
 ghost use Rattle.capture_record.specs.Range.{IsRecord};
 ghost use Rattle.capture.specs.Range.{IsInFormat, IsNode};
 ghost use Rattle.capture.specs.Writing.{WriteMeans};
@@ -13,7 +13,7 @@ use crate::entry_line::put_line_in;
 use crate::fault::WriteFault;
 use crate::format::Format;
 use crate::hint::{HintForm, next_mark_of};
-use crate::line_words::put_head_line;
+use crate::line_words::{put_head_line, put_part_head_line};
 use capture_record::Record;
 use std::alloc::{AllocError, Global};
 use std::io::Write;
@@ -107,6 +107,37 @@ pub fn write_head_in<W: Write>(
     }
 }
 
+/// Writes the head of a part of a run, `ddcap 4 OWN PEER part`, in one piece. Its faults are those of [`write_head`].
+pub fn write_part_head<W: Write>(
+    alloc: Global,
+    own: u16,
+    peer: u16,
+    writer: &mut Tally<W>,
+) -> Result<(), WriteFault>
+    requires own { IsNode own }
+    requires peer { IsNode peer }
+    ensures ok { OnOk result (Appends (W.contents (tally_lent writer.old)) (W.contents (tally_lent writer.new))
+        (part_head_line own peer)) }
+    ensures fault { WriteMeans (W.contents (tally_lent writer.old)) (W.contents (tally_lent writer.new))
+        (tally_faults writer.old) (tally_faults writer.new) (part_head_line own peer) result }
+{
+    let Ok(line) = part_head_words(alloc, own, peer) else {
+        return Err(WriteFault::OutOfMemory);
+    };
+    match write_whole(writer, line.as_slice()) {
+        Ok(()) => Ok(()),
+        Err(_) => Err(WriteFault::Write),
+    }
+}
+
+fn part_head_words(alloc: Global, own: u16, peer: u16) -> Result<Vec<u8>, AllocError>
+    ensures { IfOk result (λ line. line.items ≡ part_head_line own peer) }
+{
+    let mut line = Vec::with_capacity(alloc, WORDS)?;
+    put_part_head_line(&mut line, own, peer)?;
+    Ok(line)
+}
+
 fn head_words(alloc: Global, format: Format, own: u16, peer: u16) -> Result<Vec<u8>, AllocError>
     ensures { IfOk result (λ line. line.items ≡ head_line format own peer) }
 {
@@ -176,6 +207,22 @@ pub fn write_record_3<W: Write>(
         (tally_faults writer.old) (tally_faults writer.new) (record_line HintForm.Wide «record».now) result }
 {
     write_record_in(alloc, HintForm::Wide, record, writer)
+}
+
+/// Writes the record's line in a part of a run, in one piece: with `-` for the hint 0, and else with the hint less one. The record has to be in range
+/// (`Record::in_range`). Its faults are those of [`write_record_3`].
+pub fn write_part_record<W: Write>(
+    alloc: Global,
+    record: &Record,
+    writer: &mut Tally<W>,
+) -> Result<(), WriteFault>
+    requires { IsRecord «record».now }
+    ensures ok { OnOk result (Appends (W.contents (tally_lent writer.old)) (W.contents (tally_lent writer.new))
+        (record_line HintForm.Part «record».now)) }
+    ensures fault { WriteMeans (W.contents (tally_lent writer.old)) (W.contents (tally_lent writer.new))
+        (tally_faults writer.old) (tally_faults writer.new) (record_line HintForm.Part «record».now) result }
+{
+    write_record_in(alloc, HintForm::Part, record, writer)
 }
 
 fn write_record_in<W: Write>(

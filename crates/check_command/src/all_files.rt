@@ -1,5 +1,6 @@
 //! `check --all`, `alone --all` and `why --all` between the names of their files and their status.
 
+use crate::packets::{advised, advised_pair};
 use all_answer::all_end::EndCapture;
 use all_answer::all_judged::{AllFault, Captures, print_all};
 use all_answer::all_pair::{PairCaptures, Telling};
@@ -64,7 +65,8 @@ pub fn check_all_pair<R: Files + AllocGlobal, O: Write, E: Write>(
         b: &mut b,
     };
     let first = captures.first(rt.alloc());
-    print_answers(rt.alloc(), asked, &mut captures, first, out, err)
+    let status = print_answers(rt.alloc(), asked, &mut captures, first, out, err);
+    advised_pair(rt.alloc(), how.layers, status, paths, &mut a, &mut b, err)
 }
 
 /// Finds all that refuses the capture in this file without that of the other end, prints it, and answers the status.
@@ -96,7 +98,8 @@ pub fn alone_all_file<R: Files + AllocGlobal, O: Write, E: Write>(
         a: &mut a,
     };
     let first = captures.first(rt.alloc());
-    print_answers(rt.alloc(), asked, &mut captures, first, out, err)
+    let status = print_answers(rt.alloc(), asked, &mut captures, first, out, err);
+    advised(rt.alloc(), how.layers, status, Named::A, path, &mut a, err)
 }
 
 // A file to be read. `Err`: the status where it can't be opened, which was told.

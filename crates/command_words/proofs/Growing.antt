@@ -1,5 +1,6 @@
 -- A table that is read one row further.
-use Rattle.std.proofs.Common.{◌≡◌, ◌∙◌, ◌<◌, ◌+◌, ◌++◌, ◌∷◌, ◌&&◌, ◌==◌, not, ap, ap₂, sym, refl, arith, ℕ, Bool, true, false, List, [], length, take, get_or}
+use Rattle.std.proofs.Common.{◌≡◌, ◌∙◌, ◌<◌, ◌+◌, ◌++◌, ◌∷◌, ◌&&◌, ◌==◌, not, ap, ap₂}
+use Rattle.std.proofs.Common.{sym, refl, arith, ℕ, Bool, true, false, List, [], length, take, get_or}
 use Rattle.std.proofs.lemmas.Bool.{ne_eqb}
 use Rattle.std.proofs.lemmas.List.{length-append, map_more, take_more}
 use Rattle.clap.specs.Words.{App, Rule, with_rule, with_subcommand}
@@ -37,7 +38,8 @@ pub with_word : (program : List ℕ) (words : List Word) (i : ℕ) (d : Word) (o
 unfolding with_shapes
 with_word program words i d old sub new below old_is sub_is new_is =
     new_is ∙ (ap₂ (λ (app other : App). with_subcommand app other.top) old_is sub_is
-    ∙ (ap₂ (with_shapes program) (sym (ap (λ (xs : List Word). length xs == 0) (take_more words i d below) ∙ not_empty (take i words) (get_or words i d)))
+    ∙ (ap₂ (with_shapes program) (sym (ap (λ (xs : List Word). length xs == 0) (take_more words i d below)
+    ∙ not_empty (take i words) (get_or words i d)))
     (sym (map_more shape_of_word words i d below))))
 
 -- of what is asked of a plain command, one thing

@@ -219,10 +219,11 @@ If it finds nothing that explains a unit, it names that unit. Unit 7 of a
 
 If no correct node sends a unit, the second line says instead: side a is at
 fault at its unit 7 (line 16), if the recording is whole. Where a correct node
-may send it after all, as a router may, that it is none is a condition too. If
-the recording itself shows that it is not whole, neither node is accused: the
-line says what was seen, and what to do. Both captures then end with that unit.
-Then: ddcap why --queued A B
+may send it after all, as one whose user gave up a call, that is a condition
+too. Nobody is accused of a packet from or to a third node, since the line may
+lead to a router. If the recording itself shows that it is not whole, neither
+node is accused: the line says what was seen, and what to do. Both captures
+then end with that unit. Then: ddcap why --queued A B
 
 The answer begins with apart: where each side is explained by itself.
 

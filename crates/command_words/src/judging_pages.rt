@@ -21,7 +21,8 @@ For a pair without a fault it prints accepted, and a line of counts per side.
 
 With --line, before or after the files, only DDCMP is judged: a packet may be
 any bytes and is not read, and events of links are not judged. Use it if the
-line joins routers, or carries something other than DECnet.
+line joins routers, or carries something other than DECnet. A capture may then
+be a part of a run, of a line that ran when the recording began.
 
 With --queued the nodes may have queues between NSP and DDCMP, as most real
 nodes have: docs/LINKS.md says what differs. Without it a link has to act at
@@ -65,8 +66,9 @@ sent what was received there. Then: ./ddcap explain 8
 passed, and a line of counts: this end broke no rule, as far as one end shows.
 
 A recorder that counts no units writes r 0 BYTES and k 0 BYTES in format 2.
-With --line only DDCMP is judged, with --queued a node with queues between NSP
-and DDCMP, and with --all all refusals are listed, as ddcap help check says.
+With --line only DDCMP is judged, of a part of a run too, with --queued a node
+with queues between NSP and DDCMP, and with --all all refusals are listed, as
+ddcap help check says.
 
 With --json the answer is one JSON object; docs/KEYS.md has its keys.
 

@@ -6,11 +6,13 @@
 
 mod advice;
 mod building;
+mod given;
 mod help_pages;
 mod judging_pages;
 mod look_up;
 mod page;
 mod part;
+mod slip;
 mod table;
 mod word;
 
@@ -20,5 +22,6 @@ pub use help_pages::PROGRAM;
 pub use look_up::word_named;
 pub use page::Page;
 pub use part::Part;
+pub use slip::{Slip, slip_of};
 pub use table::WORDS;
-pub use word::{Advice, Word};
+pub use word::Word;

@@ -2,7 +2,6 @@
 
 use crate::page::Page;
 use crate::part::Part::{Flag, Needed, Optional, Several, Valued};
-use crate::word::Advice::{Nothing, Use, UseOfMore};
 use crate::word::Word;
 
 /// The words, in the order of the page of the whole.
@@ -18,7 +17,9 @@ pub static WORDS: [Word; 12] = [
             Needed("B"),
             Several("MORE"),
         ],
-        advice: UseOfMore("usage: ddcap check [--all] [--line | --queued] [--json] A B [A B ..]\n"),
+        needs: "two captures, or more in pairs",
+        values: "",
+        usage: "usage: ddcap check [--all] [--line | --queued] [--json] A B [A B ..]\n",
         page: Page::Check,
     },
     Word {
@@ -30,7 +31,9 @@ pub static WORDS: [Word; 12] = [
             Flag("json"),
             Needed("A"),
         ],
-        advice: Use("usage: ddcap alone [--all] [--line | --queued] [--json] A\n"),
+        needs: "one capture",
+        values: "",
+        usage: "usage: ddcap alone [--all] [--line | --queued] [--json] A\n",
         page: Page::Alone,
     },
     Word {
@@ -44,7 +47,9 @@ pub static WORDS: [Word; 12] = [
             Needed("A"),
             Optional("B"),
         ],
-        advice: Use("usage: ddcap why [--all] [--line | --queued] [--full] [--json] A [B]\n"),
+        needs: "one capture, or two",
+        values: "",
+        usage: "usage: ddcap why [--all] [--line | --queued] [--full] [--json] A [B]\n",
         page: Page::Why,
     },
     Word {
@@ -58,7 +63,9 @@ pub static WORDS: [Word; 12] = [
             Needed("B"),
             Several("MORE"),
         ],
-        advice: Use("usage: ddcap cover [--line | --queued] [--json] [--missing] A B [A B ..]\n"),
+        needs: "two captures, or more in pairs",
+        values: "",
+        usage: "usage: ddcap cover [--line | --queued] [--json] [--missing] A B [A B ..]\n",
         page: Page::Cover,
     },
     Word {
@@ -73,33 +80,41 @@ pub static WORDS: [Word; 12] = [
             Needed("A"),
             Needed("B"),
         ],
-        advice: Use(
-            "usage: ddcap draw [--all] [--line | --queued] [--from a:LINE] [--rows N] [--svg FILE] A B\n",
-        ),
+        needs: "two captures",
+        values: "--rows takes 1 to 200, and --from a:LINE or b:LINE, with LINE from 2 on",
+        usage: "usage: ddcap draw [--all] [--line | --queued] [--from a:LINE] [--rows N] [--svg FILE] A B\n",
         page: Page::Draw,
     },
     Word {
         name: "show",
         parts: &[Needed("A")],
-        advice: Nothing,
+        needs: "one capture",
+        values: "",
+        usage: "usage: ddcap show A\n",
         page: Page::Show,
     },
     Word {
         name: "play",
         parts: &[Needed("SCRIPT"), Needed("A"), Needed("B")],
-        advice: Nothing,
+        needs: "a script, and two captures to write",
+        values: "",
+        usage: "usage: ddcap play SCRIPT A B\n",
         page: Page::Play,
     },
     Word {
         name: "convert",
         parts: &[Needed("N"), Needed("IN"), Needed("OUT")],
-        advice: Nothing,
+        needs: "the number of a format, a capture, and a capture to write",
+        values: "a format is 1, 2 or 3",
+        usage: "usage: ddcap convert N IN OUT, with N 1, 2 or 3\n",
         page: Page::Convert,
     },
     Word {
         name: "align",
         parts: &[Needed("A"), Needed("B"), Needed("OUT_A"), Needed("OUT_B")],
-        advice: Use("usage: ddcap align A B OUT_A OUT_B\n"),
+        needs: "two captures, and two captures to write",
+        values: "",
+        usage: "usage: ddcap align A B OUT_A OUT_B\n",
         page: Page::Align,
     },
     Word {
@@ -111,19 +126,25 @@ pub static WORDS: [Word; 12] = [
             Needed("A"),
             Needed("B"),
         ],
-        advice: Use("usage: ddcap tap [--line] [--json] WIRE A B\n"),
+        needs: "the text of a wire, and two captures to write",
+        values: "",
+        usage: "usage: ddcap tap [--line] [--json] WIRE A B\n",
         page: Page::Tap,
     },
     Word {
         name: "help",
         parts: &[Optional("WORD")],
-        advice: Use("usage: ddcap help [WORD]\n"),
+        needs: "one word, or none",
+        values: "WORD is one of those that ddcap help lists",
+        usage: "usage: ddcap help [WORD]\n",
         page: Page::Help,
     },
     Word {
         name: "explain",
         parts: &[Needed("N")],
-        advice: Use("usage: ddcap explain N, with N from 1 to 27, or the name of a reason\n"),
+        needs: "one reason",
+        values: "a reason is a number from 1 to 27, or its name",
+        usage: "usage: ddcap explain N, with N from 1 to 27, or the name of a reason\n",
         page: Page::Explain,
     },
 ];

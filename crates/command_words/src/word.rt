@@ -10,19 +10,12 @@ pub struct Word {
     pub name: &'static str,
     /// What may follow it.
     pub parts: &'static [Part],
-    /// What is told after `bad words`.
-    pub advice: Advice,
+    /// Which files, or other words, have to follow it, as `two captures`.
+    pub needs: &'static str,
+    /// Which values there are of its options or of what has to follow it; empty where any is taken.
+    pub values: &'static str,
+    /// How it is used: a line.
+    pub usage: &'static str,
     /// The page that `help` prints of it.
     pub page: Page,
-}
-
-/// What is told of a word after `bad words`: how it is used, in a line.
-#[derive(Clone, Copy)]
-pub enum Advice {
-    /// No more.
-    Nothing,
-    /// This line.
-    Use(&'static str),
-    /// This line, where an option of the word was given, or more files than it needs.
-    UseOfMore(&'static str),
 }

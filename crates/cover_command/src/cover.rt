@@ -6,7 +6,7 @@ ghost use Rattle.cover_command.specs.Covering as spec;
 ghost use Rattle.printing.specs.NotOpened as names;
 ghost use Rattle.printing.specs.Printed.{moved, stream_of};
 
-use crate::went::{Went, judge_went, let_go};
+use crate::went::{Went, judge_went};
 use coverage::{Counts, Cover, Hint, Setup, judge_covered, missing_text, table};
 use pair_judge::Verdict;
 use printing::check::{print, print_fault, print_out_of_memory};
@@ -94,7 +94,7 @@ pub fn cover_pair<A: Read, B: Read, E: Write>(
         Err(fault) => return Err(print_fault(alloc, fault, err)),
     };
     let added = covered.add(alloc, watched.ends.verdict(), &watched.observer);
-    let_go(watched.ends);
+    watched.ends.let_go();
     match added {
         Ok(()) => Ok(()),
         Err(_) => Err(print_out_of_memory(err)),

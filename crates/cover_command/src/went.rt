@@ -6,7 +6,7 @@ ghost use Rattle.pair_judge.specs.Watched.{only};
 ghost use Rattle.pair_judge.specs.JudgedAs.{nodes_of};
 
 use coverage::{Counts, Cover, ROWS, STATION_ROWS, judge_covered};
-use pair_judge::{JudgeFault, JudgedEnds, MadeEntry, Observer, Verdict, Watched, judge};
+use pair_judge::{JudgeFault, MadeEntry, Observer, Verdict, Watched, judge};
 use printing::layers::Layers;
 use std::alloc::{AllocError, Global};
 use std::io::Read;
@@ -43,7 +43,7 @@ pub fn judge_went<A: Read, B: Read>(
                     a: watched.observer.of_side(Side::A),
                     b: watched.observer.of_side(Side::B),
                 };
-                let_go(watched.ends);
+                watched.ends.let_go();
                 Ok(went)
             }
             Err(fault) => Err(fault),
@@ -71,7 +71,7 @@ fn judge_queued_went<A: Read, B: Read>(
                 a: watched.observer.cover.of_side(Side::A),
                 b: watched.observer.cover.of_side(Side::B),
             };
-            let_go(watched.ends);
+            watched.ends.let_go();
             Ok(went)
         }
         Err(fault) => Err(fault),
@@ -102,15 +102,12 @@ fn judge_line_went<A: Read, B: Read>(
                 a: of_stations(watched.observer.cover.of_side(Side::A)),
                 b: of_stations(watched.observer.cover.of_side(Side::B)),
             };
-            let_go(watched.ends);
+            watched.ends.let_go();
             Ok(went)
         }
         Err(fault) => Err(fault),
     }
 }
-
-/// Drops both ends. Where a function drops them by itself, its proof follows the drop of all their parts; here that is done once.
-pub(crate) fn let_go(_ends: JudgedEnds) {}
 
 // Counts of no record: `coverage` makes them only where it judges.
 fn nothing_covered(alloc: Global) -> Result<Cover, JudgeFault> {
@@ -119,7 +116,7 @@ fn nothing_covered(alloc: Global) -> Result<Cover, JudgeFault> {
     match judge_covered(alloc, &mut a, &mut b) {
         Ok(watched) => {
             let Watched { ends, observer } = watched;
-            let_go(ends);
+            ends.let_go();
             Ok(observer)
         }
         Err(fault) => Err(fault),

@@ -11,7 +11,7 @@ use std::io::Write;
 use wire_base::{Tally, write_whole};
 
 /// The version of the program: this place alone has it.
-pub const VERSION: &str = "1.12";
+pub const VERSION: &str = "1.13";
 
 /// The status where the page was printed.
 const HELPED: u8 = 0;

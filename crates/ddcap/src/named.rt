@@ -1,6 +1,7 @@
 //! Which reason a word names.
 
-ghost use Rattle.std.specs.Prelude.{◌≡◌, IfOk, IfSome};
+ghost use Rattle.std.specs.Prelude.{◌≡◌, IfOk, IfSome, map};
+ghost use Rattle.std.specs.Char.{to_ascii_lowercase};
 ghost use Rattle.std.specs.Fmt.{decimal};
 ghost use Rattle.pair_judge.specs.Reason.{reason_name, reason_number};
 
@@ -20,13 +21,13 @@ pub fn reason_spelled(word: &str) -> Option<Reason>
     None
 }
 
-/// The reason with this name. `AllocError` where there is no memory for a name to be compared.
+/// The reason with this name, in letters of either case. `AllocError` where there is no memory for a name to be compared.
 pub fn reason_named(alloc: Global, word: &str) -> Result<Option<Reason>, AllocError>
-    ensures { IfOk result (λ found. IfSome found (λ reason. word.now ≡ reason_name reason)) }
+    ensures { IfOk result (λ found. IfSome found (λ reason. map to_ascii_lowercase (reason_name reason) ≡ map to_ascii_lowercase word.now)) }
 {
     for reason in &REASONS {
         let name = format!(in alloc; "{reason}")?;
-        if name.as_str() == word {
+        if name.as_str().eq_ignore_ascii_case(word) {
             return Ok(Some(*reason));
         }
     }

@@ -9,7 +9,7 @@ use crate::help::help_to;
 use crate::words::{Task, WordsFault, task_of};
 use capture::Format;
 use check_command::check_files::{alone_file, check_files};
-use command_words::{WORDS, advice_on};
+use command_words::{WORDS, advice_on, slip_of};
 use cover_command::cover_files::cover_files;
 use draw_command::draw_files::draw_files;
 use pair_judge::Reason;
@@ -19,6 +19,7 @@ use printing::files::{Named, Wanted, another_of, opened, opened_plain};
 use printing::how::Refusals;
 use printing::text::FAULTY;
 use printing::written::{Beside, written};
+use std::alloc::{AllocError, Global};
 use std::env;
 use std::io::{ErrorKind, Write};
 use std::rt::{Env, Files};
@@ -39,6 +40,9 @@ use wire_base::{Side, Tally};
 // The status of words that are no task.
 const BAD_WORDS: u8 = 2;
 
+// What is told where a word can't be read.
+const NO_TEXT: &str = "a word is not UTF-8\ntry: ddcap help\n";
+
 /// Does what the program's words ask for, and answers its status.
 pub fn run<R: Env + Files + AllocGlobal, O: Write, E: Write>(
     rt: &R,
@@ -47,11 +51,11 @@ pub fn run<R: Env + Files + AllocGlobal, O: Write, E: Write>(
 ) -> u8 {
     let words: Vec<String> = match words_given(rt) {
         Ok(words) => words,
-        Err(fault) => return print_words_fault(err, fault),
+        Err(fault) => return print_slip(err, fault, String::from_str(rt.alloc(), NO_TEXT)),
     };
     let task = match task_of(rt.alloc(), words.as_slice()) {
         Ok(task) => task,
-        Err(fault) => return print_slip(err, fault, advice_on(&WORDS, words.as_slice())),
+        Err(fault) => return print_slip(err, fault, slip_text(rt.alloc(), words.as_slice())),
     };
     let mut program = Program { rt, out, err };
     match program.do_task(task) {
@@ -213,18 +217,31 @@ fn words_given<R: Env + AllocGlobal>(rt: &R) -> Result<Vec<String>, WordsFault> 
     }
 }
 
-// Prints why the words are no task and, after `bad words`, the line that is told of them; and answers the status.
-fn print_slip<W: Write>(err: &mut Tally<W>, fault: WordsFault, advice: Option<&str>) -> u8
+// What is wrong with the words, in a line if that is known, and how they are used, in another one.
+fn slip_text(alloc: Global, words: &[String]) -> Result<String, AllocError> {
+    let advice = advice_on(&WORDS, words);
+    match slip_of(&WORDS, words) {
+        Some(slip) => format!(in alloc; "{slip}\n{advice}"),
+        None => String::from_str(alloc, advice),
+    }
+}
+
+// Prints why the words are no task and, after `bad words`, the lines that are told of them, if there is memory for these; and answers the status.
+fn print_slip<W: Write>(
+    err: &mut Tally<W>,
+    fault: WordsFault,
+    told: Result<String, AllocError>,
+) -> u8
     ensures { EndsWith (words_fault_status fault) result }
 {
     let status = print_words_fault(err, fault);
-    let Some(advice) = advice else {
+    let Ok(told) = told else {
         return status;
     };
     if status != BAD_WORDS {
         return status;
     }
-    print(err, advice.as_bytes(), status)
+    print(err, told.as_bytes(), status)
 }
 
 // Prints `bad words`, or `out of memory`, and answers the status.

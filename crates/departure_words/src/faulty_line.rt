@@ -1,6 +1,7 @@
 //! What is said of a line that departs from the format of captures: where it does, what is there, and what would be right.
 
 use crate::text_scan::{Place, Scan, begins_with};
+use crate::wire_scan::likely_in_wire;
 use capture::{Departure, Format, MAX_LINE};
 use record_words::words::ByteCount;
 use record_words::wrapped::put_wrapped;
@@ -12,9 +13,27 @@ use wire_text::is_packet_capture;
 const PACKETS: &str =
     "a packet capture (tcpdump, Wireshark): tools/wire_pcap line.pcap > line.wire && ./ddcap tap line.wire A B makes both captures of it";
 
+// How lines begin that only format 3 has, and what is told of them.
+const ONLY_IN_FORMAT_3: [(&[u8], &str); 6] = [
+    (b"u boot", "u boot needs format 3: ddcap 3 in the head"),
+    (b"u abort", "u abort needs format 3: ddcap 3 in the head"),
+    (
+        b"u interrupted",
+        "u interrupted needs format 3: ddcap 3 in the head",
+    ),
+    (
+        b"u interrupt",
+        "u interrupt needs format 3: ddcap 3 in the head",
+    ),
+    (b"d ", "a d line needs format 3: ddcap 3 in the head"),
+    (b"x ", "an x line needs format 3: ddcap 3 in the head"),
+];
+
 /// A line of a text that departs from the format.
 #[derive(Clone, Copy)]
 pub struct FaultyLine<'l> {
+    /// Of which text it is.
+    pub text: TextKind,
     /// How it departs.
     pub kind: Departure,
     /// Its number, from 1 on.
@@ -25,6 +44,15 @@ pub struct FaultyLine<'l> {
     pub has_lf: bool,
     /// The first bytes of the text.
     pub first: &'l [u8],
+}
+
+/// Which text a line is of.
+#[derive(Clone, Copy, PartialEq, Eq)]
+pub enum TextKind {
+    /// A capture.
+    Capture,
+    /// What passed on a line.
+    Wire,
 }
 
 /// Rows with an LF each: the first column at which the line departs, with what is there; what would be right; and what that is likely to come
@@ -43,12 +71,8 @@ pub fn faulty_line_rows(alloc: Global, line: FaultyLine<'_>) -> Result<String, A
             put_wrapped(&mut text, "  allowed  ", place.allowed)?;
         }
         None => {
-            if line.kind == Departure::TooMany {
-                put_wrapped(
-                    &mut text,
-                    "  allowed  ",
-                    "at most 1,000,000,000,000 records",
-                )?;
+            if let Some(words) = allowed_else(line.kind) {
+                put_wrapped(&mut text, "  allowed  ", words)?;
             }
         }
     }
@@ -56,6 +80,17 @@ pub fn faulty_line_rows(alloc: Global, line: FaultyLine<'_>) -> Result<String, A
         put_wrapped(&mut text, "  likely   ", words)?;
     }
     Ok(text)
+}
+
+// What would be right where no column departs.
+fn allowed_else(kind: Departure) -> Option<&'static str> {
+    match kind {
+        Departure::TooMany => Some("at most 1,000,000,000,000 records"),
+        Departure::Part => Some(
+            "a whole capture, in format 1, 2 or 3: only alone --line and check --line judge a part",
+        ),
+        Departure::Syntax | Departure::TooLong => None,
+    }
 }
 
 // Where the line departs.
@@ -66,12 +101,7 @@ fn place_of(line: FaultyLine<'_>) -> Option<Place> {
             allowed: "the end of the line, which has at most 131,081 bytes",
         });
     }
-    let mut scan = Scan::new(line.bytes);
-    let read = match line.number {
-        1 => scan.head(),
-        _ => scan.record(format_of(line.first)),
-    };
-    match read {
+    match read_of(line) {
         Err(place) => Some(place),
         Ok(()) => match line.has_lf {
             true => None,
@@ -80,6 +110,17 @@ fn place_of(line: FaultyLine<'_>) -> Option<Place> {
                 allowed: "an LF (byte 0a), which ends each line, also the last one",
             }),
         },
+    }
+}
+
+// Whether the line departs, its LF apart.
+fn read_of(line: FaultyLine<'_>) -> Result<(), Place> {
+    let mut scan = Scan::new(line.bytes);
+    match (line.text, line.number) {
+        (TextKind::Capture, 1) => scan.head(),
+        (TextKind::Capture, _) => scan.record(format_of(line.first)),
+        (TextKind::Wire, 1) => scan.wire_head(),
+        (TextKind::Wire, _) => scan.piece(),
     }
 }
 
@@ -120,6 +161,9 @@ fn seen_at(alloc: Global, line: &[u8], at: usize) -> Result<String, AllocError> 
 
 // What such a line is likely to come from.
 fn likely(line: FaultyLine<'_>) -> Option<&'static str> {
+    if line.text == TextKind::Wire {
+        return likely_in_wire(line);
+    }
     if line.number == 1 {
         if let Some(words) = other_file(line.first) {
             return Some(words);
@@ -127,6 +171,7 @@ fn likely(line: FaultyLine<'_>) -> Option<&'static str> {
     }
     match line.bytes {
         [.., b'\r'] => Some("a text with CR and LF at the end of its lines: remove each CR"),
+        _ if needs_format_3(line).is_some() => needs_format_3(line),
         [] => match line.has_lf {
             true => Some("an empty line: a capture has none"),
             false => Some("an empty file, or one that was not written to its end"),
@@ -138,6 +183,22 @@ fn likely(line: FaultyLine<'_>) -> Option<&'static str> {
             false => Some("a recorder that was stopped, or that writes no LF after the last line"),
         },
     }
+}
+
+// What only format 3 has, and the line of an earlier format begins with.
+fn needs_format_3(line: FaultyLine<'_>) -> Option<&'static str> {
+    if line.text != TextKind::Capture
+        || line.number == 1
+        || format_of(line.first) == Format::Three
+    {
+        return None;
+    }
+    for (words, told) in ONLY_IN_FORMAT_3 {
+        if begins_with(line.bytes, words) {
+            return Some(told);
+        }
+    }
+    None
 }
 
 // Which other file begins with these bytes.

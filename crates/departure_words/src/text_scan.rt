@@ -23,18 +23,22 @@ impl<'l> Scan<'l> {
         Scan { line, at: 0 }
     }
 
-    /// The head of a capture: `ddcap 1 1.1 1.2`.
+    /// The head of a capture: `ddcap 1 1.1 1.2`; or of a part: `ddcap 4 1.1 1.2 part`.
     pub fn head(&mut self) -> Result<(), Place> {
         if !self.takes(b"ddcap ") {
             return self.departs("the head of a capture, such as: ddcap 1 1.1 1.2");
         }
-        if !self.takes(b"1") && !self.takes(b"2") && !self.takes(b"3") {
+        let of_part = self.takes(b"4");
+        if !of_part && !self.takes(b"1") && !self.takes(b"2") && !self.takes(b"3") {
             return self.departs("the format, which is 1, 2 or 3");
         }
         self.space()?;
         self.node()?;
         self.space()?;
         self.node()?;
+        if of_part && !self.takes(b" part") {
+            return self.departs("a space and the word part, since format 4 is that of parts");
+        }
         self.end()
     }
 
@@ -72,22 +76,14 @@ impl<'l> Scan<'l> {
     }
 
     fn event(&mut self, format: Format) -> Result<(), Place> {
-        if format == Format::Three {
-            if self.takes(b"boot") {
-                return Ok(());
-            }
-            if self.takes(b"abort") {
-                self.space()?;
-                return self.link();
-            }
-            if self.takes(b"interrupted") || self.takes(b"interrupt") {
-                return self.link_bytes(MAX_INTERRUPT, "at most 16 bytes");
-            }
+        let has_more = format == Format::Three;
+        if has_more && (self.takes(b"interrupted") || self.takes(b"interrupt")) {
+            return self.link_bytes(MAX_INTERRUPT, "at most 16 bytes");
         }
-        if self.takes(b"start") || self.takes(b"halt") {
+        if self.takes(b"start") || self.takes(b"halt") || has_more && self.takes(b"boot") {
             return Ok(());
         }
-        if self.takes(b"open") || self.takes(b"close") {
+        if self.takes(b"open") || self.takes(b"close") || has_more && self.takes(b"abort") {
             self.space()?;
             return self.link();
         }
@@ -112,7 +108,7 @@ impl<'l> Scan<'l> {
     }
 
     // A node's address.
-    fn node(&mut self) -> Result<(), Place> {
+    pub(crate) fn node(&mut self) -> Result<(), Place> {
         self.number((1, 63), "an area from 1 to 63, with no zero before it")?;
         if !self.takes(b".") {
             return self.departs("a dot between area and node, as in 1.2");
@@ -163,7 +159,7 @@ impl<'l> Scan<'l> {
     }
 
     // BYTES, of which there are at most so many.
-    fn digits(&mut self, most: usize, too_many: &'static str) -> Result<(), Place> {
+    pub(crate) fn digits(&mut self, most: usize, too_many: &'static str) -> Result<(), Place> {
         if self.takes(b"-") {
             return Ok(());
         }
@@ -199,14 +195,14 @@ impl<'l> Scan<'l> {
         }
     }
 
-    fn space(&mut self) -> Result<(), Place> {
+    pub(crate) fn space(&mut self) -> Result<(), Place> {
         if self.takes(b" ") {
             return Ok(());
         }
         self.departs("a space, one between the parts of a line")
     }
 
-    fn end(&self) -> Result<(), Place> {
+    pub(crate) fn end(&self) -> Result<(), Place> {
         if self.at == self.line.len() {
             return Ok(());
         }
@@ -214,7 +210,7 @@ impl<'l> Scan<'l> {
     }
 
     // The next byte.
-    fn next(&self) -> Option<u8> {
+    pub(crate) fn next(&self) -> Option<u8> {
         self.line.get(self.at).copied()
     }
 
@@ -233,7 +229,7 @@ impl<'l> Scan<'l> {
     }
 
     // Goes on past these bytes, if they come next.
-    fn takes(&mut self, bytes: &[u8]) -> bool {
+    pub(crate) fn takes(&mut self, bytes: &[u8]) -> bool {
         if !begins_with(self.rest(), bytes) {
             return false;
         }
@@ -241,7 +237,7 @@ impl<'l> Scan<'l> {
         true
     }
 
-    fn departs(&self, allowed: &'static str) -> Result<(), Place> {
+    pub(crate) fn departs(&self, allowed: &'static str) -> Result<(), Place> {
         Err(Place {
             at: self.at,
             allowed,

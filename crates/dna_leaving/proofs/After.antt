@@ -1,21 +1,9 @@
 -- All links after effects: what is left of them goes along, stays as it is where the link is left out, and fits.
-use Rattle.std.proofs.Common.{◌≡◌, ℕ, Bool, true, false, Option, Some, None, List, [], ◌∷◌, map, length, refl, sym, ap, ◌∙◌, subst, option_map}
-use Rattle.std.proofs.Common.{inr, length-set, length-append, ◌≤◌, arith}
-use Rattle.std.specs.Prelude.{slice_get, IfSome}
-use Rattle.std.proofs.lemmas.List.{map-append, map-set, length-map}
-use Rattle.std.proofs.lemmas.Option.{slice_get-map, same_Some}
-use Rattle.dna_links.specs.declared.queue.Queues.{Queues}
-use Rattle.dna_links.specs.declared.port.LinkTest.TheVariants.{HasAddress}
-use Rattle.dna_links.specs.SegmentBook.{SegmentBook}
-use Rattle.dna_links.specs.Links.{LinkOf, LinksOf, with_link, begun, changed}
-use Rattle.dna_links.specs.Queues.{forgotten, freed, booted, booted_link, settled}
-use Rattle.dna_links.specs.Table.{Effect, GiveAddress, EndAll, Settle}
-use Rattle.dna_links.specs.LinkBook.{after}
-use Rattle.dna_links.proofs.Runs.Sides.{all_set, all_pushed}
-use Rattle.dna_leaving.specs.Marks.{judged_of, rank}
-use Rattle.dna_leaving.specs.LeftOut.{LeftOut}
-use Rattle.dna_leaving.specs.Left.{Judged, link_left, links_left}
-use Rattle.dna_leaving.specs.Right.{LinkFits, AreFit}
+use Rattle.dna_leaving.proofs.Prelude.{◌≡◌, ℕ, Bool, true, false, Option, Some, None, List, [], ◌∷◌, map, length, refl, sym, ap, ◌∙◌, subst}
+use Rattle.dna_leaving.proofs.Prelude.{option_map, inr, length-set, length-append, ◌≤◌, arith, slice_get, IfSome, map-append, map-set, length-map}
+use Rattle.dna_leaving.proofs.Prelude.{slice_get-map, same_Some, Queues, HasAddress, SegmentBook, LinkOf, LinksOf, with_link, begun, changed}
+use Rattle.dna_leaving.proofs.Prelude.{forgotten, freed, booted, booted_link, settled, Effect, GiveAddress, EndAll, Settle, after, all_set}
+use Rattle.dna_leaving.proofs.Prelude.{all_pushed, judged_of, rank, LeftOut, Judged, link_left, links_left, LinkFits, AreFit}
 use Rattle.dna_leaving.proofs.Judged.{judged_set, out_set, judged_more, out_more, judged_map}
 use Rattle.dna_leaving.proofs.LookUps.{NamesOwn, its_port, port_is, look_holds, seen_holds, seen_left, none_left}
 use Rattle.dna_leaving.proofs.Effects.{forgotten_left, all_booted_left, settled_left, AllFit, as_before, settled_fit, forgotten_fit, booted_fit}

@@ -1,22 +1,10 @@
 -- What holds of each answer of a row holds of what the row comes to, where each link that it finds is judged, or left out, as the row names.
-use Rattle.std.proofs.Common.{◌≡◌, ℕ, Bool, true, false, ◌&&◌, Option, Some, None, is_some, ok_or, List, [], ◌∷◌, fold, Result, Ok, Err, refl, subst}
-use Rattle.std.specs.Prelude.{slice_get, IfSome}
-use Rattle.dna_packet.specs.declared.ack_word.AckWord.{AckWord}
-use Rattle.dna_packet.specs.Nsp.{SegmentValue}
-use Rattle.dna_station.specs.declared.link_refusal.LinkRefusal.{LinkRefusal}
-use Rattle.dna_links.specs.declared.port.LinkTest.{LinkTest}
-use Rattle.dna_links.specs.declared.queue.Queues.{Queues}
-use Rattle.dna_links.specs.declared.queue.Queues.TheVariants.{Without, With}
-use Rattle.dna_links.specs.SegmentBook.{SegmentBook}
-use Rattle.dna_links.specs.Links.{LinkOf, LinksOf, LinkTruth, check, with_link, with_seen, with_segments}
-use Rattle.dna_links.specs.Queues.{in_use, with_in_use, may_send}
-use Rattle.dna_links.specs.Table.{Effect, Ask, Finds, FindsEither, FindsNone, FindsInUse, KnowsInUse, InPhase, InTurn, OrElse, ForThisLink}
-use Rattle.dna_links.specs.Table.{OfThisPair}
-use Rattle.dna_links.specs.Table.{Delivers, SendsSegment, SendsAcks}
-use Rattle.dna_links.specs.LinkBook.{are_same, on_ok, blank, does, kept, otherwise, waits, sends_segment, sends_acks, asked}
-use Rattle.dna_leaving.specs.LeftOut.{LeftOut}
-use Rattle.dna_leaving.specs.Left.{Judged}
-use Rattle.dna_leaving.specs.Right.{LinkFits, AreFit}
+use Rattle.dna_leaving.proofs.Prelude.{◌≡◌, ℕ, Bool, true, false, ◌&&◌, Option, Some, None, is_some, ok_or, List, [], ◌∷◌, fold, Result, Ok, Err}
+use Rattle.dna_leaving.proofs.Prelude.{refl, subst, slice_get, IfSome, AckWord, SegmentValue, LinkRefusal, LinkTest, Queues, Without, With}
+use Rattle.dna_leaving.proofs.Prelude.{SegmentBook, LinkOf, LinksOf, LinkTruth, check, with_link, with_seen, with_segments, in_use, with_in_use}
+use Rattle.dna_leaving.proofs.Prelude.{may_send, Effect, Ask, Finds, FindsEither, FindsNone, FindsInUse, KnowsInUse, InPhase, InTurn, OrElse}
+use Rattle.dna_leaving.proofs.Prelude.{ForThisLink, OfThisPair, Delivers, SendsSegment, SendsAcks, are_same, on_ok, blank, does, kept, otherwise}
+use Rattle.dna_leaving.proofs.Prelude.{waits, sends_segment, sends_acks, asked, LeftOut, Judged, LinkFits, AreFit}
 use Rattle.dna_leaving.proofs.LookUps.{Tests, its_port, port_is, seen_holds}
 use Rattle.dna_leaving.proofs.Effects.{AllFit, kept_fit, all_fit, as_before}
 use Rattle.dna_leaving.proofs.Asked.{AsksFit, in_use_is}

@@ -1,29 +1,13 @@
 -- A row that names judged addresses alone comes, of what is left, to what is left of what it came to.
-use Rattle.std.proofs.Common.{◌≡◌, ℕ, Bool, true, false, ◌&&◌, Option, Some, None, is_some, ok_or, List, [], ◌∷◌, fold, Result, Ok, Err}
-use Rattle.std.proofs.Common.{refl, sym, ap, ap₂, ◌∙◌, option_map, subst, eqb-true}
-use Rattle.std.proofs.lemmas.Bool.{eqb-false}
-use Rattle.std.specs.Prelude.{slice_get, ◌==◌}
-use Rattle.dna_packet.specs.declared.ack_word.AckWord.{AckWord}
-use Rattle.dna_packet.specs.Nsp.{SegmentValue}
-use Rattle.dna_station.specs.declared.link_refusal.LinkRefusal.{LinkRefusal}
-use Rattle.dna_links.specs.declared.port.Phase.{Phase}
-use Rattle.dna_links.specs.declared.port.Port.{Port}
-use Rattle.dna_links.specs.declared.port.LinkTest.{LinkTest}
-use Rattle.dna_links.specs.declared.queue.Queues.{Queues}
-use Rattle.dna_links.specs.declared.queue.Queues.TheVariants.{Without, With}
-use Rattle.dna_links.specs.SegmentBook.{SegmentBook}
-use Rattle.dna_links.specs.Links.{LinkOf, LinksOf, LinkTruth, check, with_seen, with_segments}
-use Rattle.dna_links.specs.Queues.{in_use, with_in_use, may_send, port_of_waiting}
-use Rattle.dna_links.specs.Table.{Effect, Ask, Finds, FindsEither, FindsNone, FindsInUse, KnowsInUse, InPhase, InTurn, OrElse, ForThisLink}
-use Rattle.dna_links.specs.Table.{OfThisPair}
-use Rattle.dna_links.specs.Table.{Delivers, SendsSegment, SendsAcks, Row, Asks}
-use Rattle.dna_links.specs.LinkBook.{are_same, on_ok, blank, does, kept, otherwise, waits, sends_segment, sends_acks, asked}
-use Rattle.dna_leaving.specs.Marks.{Marks, rank}
-use Rattle.dna_leaving.specs.LeftOut.{LeftOut}
-use Rattle.dna_leaving.specs.Left.{Judged, link_left, links_left, truth_left, left_of_result}
-use Rattle.dna_leaving.specs.Right.{IsOfJudged, AreFit, NamesJudged}
+use Rattle.dna_leaving.proofs.Prelude.{◌≡◌, ℕ, Bool, true, false, ◌&&◌, Option, Some, None, is_some, ok_or, List, [], ◌∷◌, fold, Result, Ok, Err}
+use Rattle.dna_leaving.proofs.Prelude.{refl, sym, ap, ap₂, ◌∙◌, option_map, subst, eqb-true, eqb-false, slice_get, ◌==◌, AckWord, SegmentValue}
+use Rattle.dna_leaving.proofs.Prelude.{LinkRefusal, Phase, Port, LinkTest, Queues, Without, With, SegmentBook, LinkOf, LinksOf, LinkTruth, check}
+use Rattle.dna_leaving.proofs.Prelude.{with_seen, with_segments, in_use, with_in_use, may_send, port_of_waiting, Effect, Ask, Finds, FindsEither}
+use Rattle.dna_leaving.proofs.Prelude.{FindsNone, FindsInUse, KnowsInUse, InPhase, InTurn, OrElse, ForThisLink, OfThisPair, Delivers, SendsSegment}
+use Rattle.dna_leaving.proofs.Prelude.{SendsAcks, Row, Asks, are_same, on_ok, blank, does, kept, otherwise, waits, sends_segment, sends_acks, asked}
+use Rattle.dna_leaving.proofs.Prelude.{Marks, rank, LeftOut, Judged, link_left, links_left, truth_left, left_of_result, IsOfJudged, AreFit}
+use Rattle.dna_leaving.proofs.Prelude.{NamesJudged, refused_in}
 use Rattle.dna_leaving.proofs.Judged.{rank_one}
-use Rattle.dna_links.specs.LookUps.{refused_in}
 use Rattle.dna_leaving.proofs.LookUps.{Tests, IsPort, its_port, port_is, seen_left}
 use Rattle.dna_leaving.proofs.Effects.{AllFit, kept_fit, all_left}
 
@@ -215,7 +199,8 @@ module _ {D K R R' : Type 0} (queues : Queues) (book : SegmentBook D K) (rule : 
     asked_left (InPhase phases refusal ∷ asks) number link known fits all is partner =
         check_left g (phases (in_use queues link).phase) _ (here asks number link known) _
         (asked_left asks number link known fits.1 all is partner)
-        ∙ ap (λ (p : Port). check (phases p.phase) (refused_in p.phase refusal) (there asks (option_map (rank judged.here) number) (link_left judged.there link) known))
+        ∙ ap (λ (p : Port). check (phases p.phase) (refused_in p.phase refusal)
+        (there asks (option_map (rank judged.here) number) (link_left judged.there link) known))
         (sym (in_use_left judged.there queues link))
     asked_left (InTurn phase refusal ∷ asks) number link known fits all is partner =
         check_left g (may_send queues phase link) refusal (here asks number link known) _ (asked_left asks number link known fits.1 all is partner)

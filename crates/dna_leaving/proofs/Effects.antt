@@ -1,19 +1,9 @@
 -- What an effect makes of a link goes along with what is left of it, and keeps its addresses.
-use Rattle.std.proofs.Common.{◌≡◌, ℕ, Bool, true, false, Option, Some, None, List, [], ◌∷◌, map, fold, refl, sym, ap, ◌∙◌, subst}
-use Rattle.dna_links.specs.declared.port.Phase.{Phase}
-use Rattle.dna_links.specs.declared.port.Phase.TheVariants.{Running, Disconnecting}
-use Rattle.dna_links.specs.declared.queue.Queues.{Queues}
-use Rattle.dna_links.specs.declared.queue.Queues.TheVariants.{Without, With}
-use Rattle.dna_links.specs.LookUps.{is_live}
-use Rattle.dna_links.specs.SegmentBook.{SegmentBook}
-use Rattle.dna_links.specs.Links.{LinkOf, LinkTruth}
-use Rattle.dna_links.specs.Queues.{goes_on, goes_to, ends_by_message, drops, forgotten, booted_link, shows_by, settled}
-use Rattle.dna_links.specs.Table.{Effect, OpenHere, GiveAddress, Connect, GoTo, End, Drop, EndAll, Say, Settle, Keep, HandIn, TakeSegment, TakeAcks}
-use Rattle.dna_links.specs.LinkBook.{does, kept}
-use Rattle.dna_leaving.specs.Marks.{Marks}
-use Rattle.dna_leaving.specs.LeftOut.{LeftOut}
-use Rattle.dna_leaving.specs.Left.{link_left, truth_left}
-use Rattle.dna_leaving.specs.Right.{OwnFits, FarFits, IsOfJudged, LinkFits}
+use Rattle.dna_leaving.proofs.Prelude.{◌≡◌, ℕ, Bool, true, false, Option, Some, None, List, [], ◌∷◌, map, fold, refl, sym, ap, ◌∙◌, subst, Phase}
+use Rattle.dna_leaving.proofs.Prelude.{Running, Disconnecting, Queues, Without, With, is_live, SegmentBook, LinkOf, LinkTruth, goes_on, goes_to}
+use Rattle.dna_leaving.proofs.Prelude.{ends_by_message, drops, forgotten, booted_link, shows_by, settled, Effect, OpenHere, GiveAddress, Connect}
+use Rattle.dna_leaving.proofs.Prelude.{GoTo, End, Drop, EndAll, Say, Settle, Keep, HandIn, TakeSegment, TakeAcks, does, kept, Marks, LeftOut}
+use Rattle.dna_leaving.proofs.Prelude.{link_left, truth_left, OwnFits, FarFits, IsOfJudged, LinkFits}
 use Rattle.dna_leaving.proofs.LookUps.{NamesOwn}
 
 module _ {D K : Type 0} (queues : Queues) (book : SegmentBook D K) (there : Marks) where

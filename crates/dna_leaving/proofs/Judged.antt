@@ -1,10 +1,7 @@
 -- Lists of which only what is judged is left: look-ups and changes go along.
-use Rattle.std.proofs.Common.{◌≡◌, ℕ, zero, suc, ◌+◌, ◌<◌, ◌≤◌, Bool, true, false, not, ltb, cond, Option, Some, None, List, [], ◌∷◌, ◌++◌, map}
-use Rattle.std.proofs.Common.{refl, sym, ap, ◌∙◌, arith, option_map, lt-ltb, le-ltb, ◌⊎◌, inl, inr, length}
-use Rattle.std.specs.Prelude.{slice_get, slice_set, position}
-use Rattle.std.specs.List.{prefix_len}
-use Rattle.std.proofs.lemmas.Bool.{cases_lt}
-use Rattle.dna_leaving.specs.Marks.{Marks, behind, judged_of, rank}
+use Rattle.dna_leaving.proofs.Prelude.{◌≡◌, ℕ, zero, suc, ◌+◌, ◌<◌, ◌≤◌, Bool, true, false, not, ltb, cond, Option, Some, None, List, [], ◌∷◌, ◌++◌}
+use Rattle.dna_leaving.proofs.Prelude.{map, refl, sym, ap, ◌∙◌, arith, option_map, lt-ltb, le-ltb, ◌⊎◌, inl, inr, length, slice_get, slice_set}
+use Rattle.dna_leaving.proofs.Prelude.{position, prefix_len, cases_lt, Marks, behind, judged_of, rank}
 
 -- ---- the first that passes
 

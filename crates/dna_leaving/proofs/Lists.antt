@@ -1,16 +1,9 @@
 -- Records one after another: where the links make them all what is left of the records is made, and a judged record is refused alike.
-use Rattle.std.proofs.Common.{◌≡◌, ℕ, ◌<◌, ◌≤◌, Bool, true, false, not, cond, List, [], ◌∷◌, ◌++◌, length, map, Result, Ok, Err, refl, sym, ap, ◌∙◌}
-use Rattle.std.proofs.Common.{subst, arith, lt-ltb, le-ltb}
-use Rattle.std.proofs.lemmas.Option.{slice_get_within}
-use Rattle.dna_station.specs.declared.link_refusal.LinkRefusal.{LinkRefusal}
-use Rattle.dna_links.specs.Links.{LinkOf, LinksOf}
-use Rattle.dna_links.specs.LinkBook.{on_ok}
-use Rattle.dna_leaving.specs.Marks.{Marks, and_then}
-use Rattle.dna_leaving.specs.Records.{LinkRules, LinkRecord, OfNoLink, next_links, made}
-use Rattle.dna_leaving.specs.LeftOut.{LeftOut, is_out}
-use Rattle.dna_leaving.specs.Left.{Judged, link_left, links_left, left_of_result, renumbered, record_left, judged_then, if_made, records_left}
-use Rattle.dna_leaving.specs.Left.{judged_after}
-use Rattle.dna_leaving.specs.Right.{LinkFits, AreFit, IsRight, AreRight}
+use Rattle.dna_leaving.proofs.Prelude.{◌≡◌, ℕ, ◌<◌, ◌≤◌, Bool, true, false, not, cond, List, [], ◌∷◌, ◌++◌, length, map, Result, Ok, Err, refl, sym}
+use Rattle.dna_leaving.proofs.Prelude.{ap, ◌∙◌, subst, arith, lt-ltb, le-ltb, slice_get_within, LinkRefusal, LinkOf, LinksOf, on_ok, Marks}
+use Rattle.dna_leaving.proofs.Prelude.{and_then, LinkRules, LinkRecord, OfNoLink, next_links, made, LeftOut, is_out, Judged, link_left, links_left}
+use Rattle.dna_leaving.proofs.Prelude.{left_of_result, renumbered, record_left, judged_then, if_made, records_left, judged_after, LinkFits, AreFit}
+use Rattle.dna_leaving.proofs.Prelude.{IsRight, AreRight}
 use Rattle.dna_leaving.proofs.Judged.{judged_alike}
 use Rattle.dna_leaving.proofs.Answered.{IfMade}
 use Rattle.dna_leaving.proofs.Steps.{next_left, next_out, next_fit}

@@ -1,19 +1,9 @@
 -- A test that names judged addresses finds no link that is left out, and finds among what is left what it found before.
-use Rattle.std.proofs.Common.{◌≡◌, ℕ, Bool, true, false, not, Option, Some, None, refl, sym, ap, ◌∙◌, arith}
-use Rattle.std.proofs.Common.{option_map, subst, ◌⊎◌, inl, inr, eqb-true}
-use Rattle.std.specs.Prelude.{slice_get, position}
-use Rattle.std.proofs.lemmas.Bool.{and_parts}
-use Rattle.std.proofs.lemmas.Option.{slice_get-map}
-use Rattle.dna_links.specs.declared.port.Port.{Port}
-use Rattle.dna_links.specs.declared.port.LinkTest.{LinkTest}
-use Rattle.dna_links.specs.declared.port.LinkTest.TheVariants.{HasAddress, LiveAt, TheLink, LiveTo, OpenedAt, CallingAt, CalledBy, BegunBy, ActedOn}
-use Rattle.dna_links.specs.LookUps.{passes, is_at, is_live, is_connected}
-use Rattle.dna_links.specs.Links.{LinkOf, LinksOf, on_link, at_number, with_seen}
-use Rattle.dna_links.proofs.Cut.LookUps.{IsFound, found, position-map}
-use Rattle.dna_leaving.specs.Marks.{judged_of, rank}
-use Rattle.dna_leaving.specs.LeftOut.{LeftOut}
-use Rattle.dna_leaving.specs.Left.{Judged, link_left, links_left}
-use Rattle.dna_leaving.specs.Right.{OwnFits, FarFits, AreFit}
+use Rattle.dna_leaving.proofs.Prelude.{◌≡◌, ℕ, Bool, true, false, not, Option, Some, None, refl, sym, ap, ◌∙◌, arith, option_map, subst, ◌⊎◌, inl}
+use Rattle.dna_leaving.proofs.Prelude.{inr, eqb-true, slice_get, position, and_parts, slice_get-map, Port, LinkTest, HasAddress, LiveAt, TheLink}
+use Rattle.dna_leaving.proofs.Prelude.{LiveTo, OpenedAt, CallingAt, CalledBy, BegunBy, ActedOn, passes, is_at, is_live, is_connected, LinkOf}
+use Rattle.dna_leaving.proofs.Prelude.{LinksOf, on_link, at_number, with_seen, IsFound, found, position-map, judged_of, rank, LeftOut, Judged}
+use Rattle.dna_leaving.proofs.Prelude.{link_left, links_left, OwnFits, FarFits, AreFit}
 use Rattle.dna_leaving.proofs.Judged.{position_judged, judged_at, was_judged}
 
 -- ---- what a test names

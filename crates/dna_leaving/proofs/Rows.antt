@@ -1,19 +1,11 @@
 -- Each row names, for its record, only what is judged where the record is, and only what is left out where the record is.
-use Rattle.std.proofs.Common.{◌≡◌, ℕ, Bool, true, false, not, ◌&&◌, cond, ◌==◌, refl, sym, ap, ◌∙◌, inl, inr}
-use Rattle.std.proofs.Common.{eqb-true, subst, zero, suc, ◌≤◌, arith}
-use Rattle.std.proofs.lemmas.Bool.{and_parts, eqb-false}
-use Rattle.dna_packet.specs.Nsp.{NspValue, DataSegment, LinkService, DataAck, OtherDataAck, ConnectAck, NoOperation, ConnectInitiate, ConnectConfirm}
-use Rattle.dna_packet.specs.Nsp.{DisconnectInitiate, DisconnectConfirm}
-use Rattle.dna_links.specs.declared.queue.Queues.{Queues}
-use Rattle.dna_links.specs.SegmentBook.{SegmentBook}
-use Rattle.dna_links.specs.Links.{LinkTruth}
-use Rattle.dna_links.specs.User.{LinkEventValue, Open, Accept, Reject, In, Up, Close, Abort, Boot}
+use Rattle.dna_leaving.proofs.Prelude.{◌≡◌, ℕ, Bool, true, false, not, ◌&&◌, cond, ◌==◌, refl, sym, ap, ◌∙◌, inl, inr, eqb-true, subst, zero, suc}
+use Rattle.dna_leaving.proofs.Prelude.{◌≤◌, arith, and_parts, eqb-false, NspValue, DataSegment, LinkService, DataAck, OtherDataAck, ConnectAck}
+use Rattle.dna_leaving.proofs.Prelude.{NoOperation, ConnectInitiate, ConnectConfirm, DisconnectInitiate, DisconnectConfirm, Queues, SegmentBook}
+use Rattle.dna_leaving.proofs.Prelude.{LinkTruth, LinkEventValue, Open, Accept, Reject, In, Up, Close, Abort, Boot, user_row, sending_row}
+use Rattle.dna_leaving.proofs.Prelude.{arrival_row, of_none, LeftOut, source_of, destination_of, event_out, sent_out, kept_out, is_judged_there}
+use Rattle.dna_leaving.proofs.Prelude.{message_out, Judged, EventBinds, MessageBinds, NamesJudged}
 use Rattle.dna_links.specs.User as user
-use Rattle.dna_links.specs.Table.{user_row, sending_row, arrival_row}
-use Rattle.dna_links.specs.LinkBook.{of_none}
-use Rattle.dna_leaving.specs.LeftOut.{LeftOut, source_of, destination_of, event_out, sent_out, kept_out, is_judged_there, message_out}
-use Rattle.dna_leaving.specs.Left.{Judged}
-use Rattle.dna_leaving.specs.Right.{EventBinds, MessageBinds, NamesJudged}
 use Rattle.dna_leaving.proofs.LookUps.{NamesOwn, NamesFar}
 use Rattle.dna_leaving.proofs.Asked.{RowFits}
 

@@ -1,17 +1,9 @@
 -- A run of both ends: what is left of it is a run; and a judged record that is refused next to it is refused next to what is left.
-use Rattle.std.proofs.Common.{◌≡◌, ℕ, ◌<◌, Bool, true, false, not, cond, Option, List, [], ◌∷◌, ◌++◌, length, refl, sym, ap, ◌∙◌, arith}
-use Rattle.std.proofs.Common.{subst, Err, option_map, append-nil}
-use Rattle.dna_station.specs.declared.link_refusal.LinkRefusal.{LinkRefusal}
-use Rattle.dna_links.specs.declared.queue.Queues.{Queues}
-use Rattle.dna_links.specs.User.{LinkEventValue}
-use Rattle.dna_links.specs.TrueSegments.{Numbers}
-use Rattle.dna_links.specs.Runs.{LinkSide, LinkWorld, Reached, Start, ByA, ByB, new_world}
-use Rattle.dna_leaving.specs.Marks.{rank}
-use Rattle.dna_leaving.specs.Records.{true_rules, LinkRecord, OfUser, Sends, Keeps, OfNoLink, next_links}
-use Rattle.dna_leaving.specs.LeftOut.{LeftOut, event_out, is_out}
-use Rattle.dna_leaving.specs.Left.{Judged, links_left, renumbered, judged_then}
-use Rattle.dna_leaving.specs.Worlds.{other_out, other_judged, side_left, world_left, events_left, AreBound, record_of, marks_of_a, marks_of_b}
-use Rattle.dna_leaving.specs.Worlds.{judged_of_run, MayBeNext}
+use Rattle.dna_leaving.proofs.Prelude.{◌≡◌, ℕ, ◌<◌, Bool, true, false, not, cond, Option, List, [], ◌∷◌, ◌++◌, length, refl, sym, ap, ◌∙◌, arith}
+use Rattle.dna_leaving.proofs.Prelude.{subst, Err, option_map, append-nil, LinkRefusal, Queues, LinkEventValue, Numbers, LinkSide, LinkWorld}
+use Rattle.dna_leaving.proofs.Prelude.{Reached, Start, ByA, ByB, new_world, rank, true_rules, LinkRecord, OfUser, Sends, Keeps, OfNoLink}
+use Rattle.dna_leaving.proofs.Prelude.{next_links, LeftOut, event_out, is_out, Judged, links_left, renumbered, judged_then, other_out, other_judged}
+use Rattle.dna_leaving.proofs.Prelude.{side_left, world_left, events_left, AreBound, record_of, marks_of_a, marks_of_b, judged_of_run, MayBeNext}
 use Rattle.dna_leaving.proofs.Lists.{marked_before, marked_then, refused_alike}
 use Rattle.dna_leaving.proofs.Sides.{SideRight, Follows, Stays, Does, rank_as, RecordRight, event_right, packet_right, unit_right}
 use Rattle.dna_leaving.proofs.WorldSteps.{step_grows, step_left}

@@ -1,25 +1,12 @@
 -- What is left of a packet that is sent, or composed.
-use Rattle.std.proofs.Common.{◌≡◌, ℕ, ◌<◌, ◌≤◌, Bool, true, false, not, cond, ◌⊎◌, inl, inr, Option, Some, None, List, [], ◌∷◌, ◌++◌, map}
-use Rattle.std.proofs.Common.{length}
-use Rattle.std.proofs.Common.{Ok, refl, sym, ap, ap₂, ◌∙◌, arith, subst, option_map, lt-ltb}
-use Rattle.std.specs.Prelude.{slice_get}
-use Rattle.std.proofs.lemmas.List.{map-append}
-use Rattle.std.proofs.lemmas.Option.{slice_get_within, same_Some}
-use Rattle.two_nodes.proofs.NumberedSteps.{at_pushed}
-use Rattle.dna_links.specs.declared.queue.Queues.{Queues}
-use Rattle.dna_links.specs.Links.{Carried}
-use Rattle.dna_links.specs.User.{LinkEventValue}
-use Rattle.dna_links.specs.Sending.{Sent}
-use Rattle.dna_links.specs.TrueSegments.{TrueSegments, Numbers}
-use Rattle.dna_links.specs.TrueLinks.{Links, links_sent}
-use Rattle.dna_links.specs.Runs.{SentMessage, LinkSide, LinkStep, sends, keeps, ByUser, SendsNone, Composes, Passes}
+use Rattle.dna_leaving.proofs.Prelude.{◌≡◌, ℕ, ◌<◌, ◌≤◌, Bool, true, false, not, cond, ◌⊎◌, inl, inr, Option, Some, None, List, [], ◌∷◌, ◌++◌, map}
+use Rattle.dna_leaving.proofs.Prelude.{length, Ok, refl, sym, ap, ap₂, ◌∙◌, arith, subst, option_map, lt-ltb, slice_get, map-append}
+use Rattle.dna_leaving.proofs.Prelude.{slice_get_within, same_Some, at_pushed, Queues, Carried, LinkEventValue, Sent, TrueSegments, Numbers, Links}
+use Rattle.dna_leaving.proofs.Prelude.{links_sent, SentMessage, LinkSide, sends, SendsNone, Composes, rank}
+use Rattle.dna_leaving.proofs.Prelude.{true_rules, LinkRecord, Sends, links_then, next_links, LeftOut, nothing_out, message_out, is_out, Judged}
+use Rattle.dna_leaving.proofs.Prelude.{links_left, sent_left, left_of_result, judged_then, LinkFits, AreFit, other_out, other_judged, message_left}
+use Rattle.dna_leaving.proofs.Prelude.{side_left}
 use Rattle.dna_links.specs.Runs as runs
-use Rattle.dna_leaving.specs.Marks.{rank}
-use Rattle.dna_leaving.specs.Records.{true_rules, LinkRecord, Sends, links_then, next_links}
-use Rattle.dna_leaving.specs.LeftOut.{LeftOut, nothing_out, message_out, is_out}
-use Rattle.dna_leaving.specs.Left.{Judged, links_left, sent_left, left_of_result, judged_then}
-use Rattle.dna_leaving.specs.Right.{LinkFits, AreFit}
-use Rattle.dna_leaving.specs.Worlds.{other_out, other_judged, message_left, side_left}
 use Rattle.dna_leaving.proofs.Steps.{packet_left}
 use Rattle.dna_leaving.proofs.Lists.{marked_before, fit_then, left_then, next_mark}
 use Rattle.dna_leaving.proofs.Units.{below, there_are, UnitRight, unit_more, unit_sent}

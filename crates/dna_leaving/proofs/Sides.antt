@@ -1,24 +1,12 @@
 -- A step of one side beside the other: what is left of it is a step, or none.
-use Rattle.std.proofs.Common.{◌≡◌, ℕ, ◌<◌, ◌≤◌, Bool, true, false, not, cond, ◌⊎◌, inl, inr, Option, Some, None, List, [], map, length}
-use Rattle.std.proofs.Common.{Result, Ok, refl, sym, ap, ◌∙◌, arith, subst, option_map, ltb-true}
-use Rattle.std.specs.Prelude.{slice_get}
-use Rattle.std.proofs.lemmas.Bool.{cases_lt}
-use Rattle.std.proofs.lemmas.Option.{slice_get_within}
-use Rattle.dna_packet.specs.Nsp.{NspValue, ConnectInitiate, ConnectConfirm}
-use Rattle.dna_station.specs.declared.link_refusal.LinkRefusal.{LinkRefusal}
-use Rattle.dna_links.specs.declared.queue.Queues.{Queues}
-use Rattle.dna_links.specs.Links.{LinkOf, Carried}
-use Rattle.dna_links.specs.User.{LinkEventValue, Open, Accept, Reject}
+use Rattle.dna_leaving.proofs.Prelude.{◌≡◌, ℕ, ◌<◌, ◌≤◌, Bool, true, false, not, cond, ◌⊎◌, inl, inr, Option, Some, None, List, [], map, length}
+use Rattle.dna_leaving.proofs.Prelude.{Result, Ok, refl, sym, ap, ◌∙◌, arith, subst, option_map, ltb-true, slice_get, cases_lt, slice_get_within}
+use Rattle.dna_leaving.proofs.Prelude.{NspValue, ConnectInitiate, ConnectConfirm, LinkRefusal, Queues, LinkOf, Carried, LinkEventValue}
+use Rattle.dna_leaving.proofs.Prelude.{Accept, Reject, TrueSegments, Numbers, Links, SentMessage, LinkSide, LinkStep, Marks, rank, true_rules}
+use Rattle.dna_leaving.proofs.Prelude.{LinkRecord, OfUser, Sends, Keeps, OfNoLink, next_links, LeftOut, nothing_out, is_out, Judged, link_left}
+use Rattle.dna_leaving.proofs.Prelude.{links_left, renumbered, judged_then, LinkFits, AreFit, IsOfJudged, EventBinds, MessageBinds, IsRight}
+use Rattle.dna_leaving.proofs.Prelude.{other_out, other_judged}
 use Rattle.dna_links.specs.User as user
-use Rattle.dna_links.specs.TrueSegments.{TrueSegments, Numbers}
-use Rattle.dna_links.specs.TrueLinks.{Links}
-use Rattle.dna_links.specs.Runs.{SentMessage, LinkSide, LinkStep}
-use Rattle.dna_leaving.specs.Marks.{Marks, rank}
-use Rattle.dna_leaving.specs.Records.{true_rules, LinkRecord, OfUser, Sends, Keeps, OfNoLink, next_links}
-use Rattle.dna_leaving.specs.LeftOut.{LeftOut, nothing_out, is_out}
-use Rattle.dna_leaving.specs.Left.{Judged, link_left, links_left, renumbered, judged_then}
-use Rattle.dna_leaving.specs.Right.{LinkFits, AreFit, IsOfJudged, EventBinds, MessageBinds, IsRight}
-use Rattle.dna_leaving.specs.Worlds.{other_out, other_judged}
 use Rattle.dna_leaving.proofs.Judged.{judged_alike, rank_alike}
 use Rattle.dna_leaving.proofs.Answered.{IfMade}
 use Rattle.dna_leaving.proofs.Steps.{next_fit, next_grows, next_nodes}

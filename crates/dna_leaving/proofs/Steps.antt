@@ -1,22 +1,12 @@
 -- One record: what is left goes along with one that is judged, is the same after one that is left out, and fits.
-use Rattle.std.proofs.Common.{◌≡◌, ℕ, Bool, true, false, not, ◌&&◌, eqb, Option, None, List, length, Result, Ok, Err, refl, ap, ◌∙◌}
-use Rattle.std.proofs.Common.{◌≤◌, arith}
-use Rattle.std.specs.Prelude.{IfSome}
-use Rattle.dna_station.specs.declared.link_refusal.LinkRefusal.{LinkRefusal}
-use Rattle.dna_station.specs.declared.link_refusal.LinkRefusal.TheVariants.{WrongNode}
-use Rattle.dna_links.specs.declared.queue.Queues.{Queues}
-use Rattle.dna_links.specs.SegmentBook.{SegmentBook}
-use Rattle.dna_links.specs.Links.{LinkOf, LinksOf, LinkTruth, Carried}
-use Rattle.dna_links.specs.User.{LinkEventValue}
+use Rattle.dna_leaving.proofs.Prelude.{◌≡◌, ℕ, Bool, true, false, not, ◌&&◌, eqb, Option, None, List, length, Result, Ok, Err, refl, ap, ◌∙◌, ◌≤◌}
+use Rattle.dna_leaving.proofs.Prelude.{arith, IfSome, LinkRefusal, WrongNode, Queues, SegmentBook, LinkOf, LinksOf, LinkTruth, Carried}
+use Rattle.dna_leaving.proofs.Prelude.{LinkEventValue, Effect, Row, Asks, user_row, sending_row, arrival_row, after, by_row, of_none, user_step}
+use Rattle.dna_leaving.proofs.Prelude.{blank, Sent, sent_as, message_sent, sent_step, truth_as, message_arrived, arrived_step, LinkRules}
+use Rattle.dna_leaving.proofs.Prelude.{LinkRecord, OfUser, Sends, Keeps, OfNoLink, links_then, next_links, LeftOut, source_of, destination_of}
+use Rattle.dna_leaving.proofs.Prelude.{event_out, kept_out, message_out, is_out, Judged, links_left, truth_left, sent_left, left_of_result}
+use Rattle.dna_leaving.proofs.Prelude.{renumbered, AreFit, LinkFits, IsOfJudged, EventBinds, MessageBinds, NamesJudged, IsRight}
 use Rattle.dna_links.specs.User as user
-use Rattle.dna_links.specs.Table.{Effect, Row, Asks, user_row, sending_row, arrival_row}
-use Rattle.dna_links.specs.LinkBook.{after, by_row, of_none, user_step, blank}
-use Rattle.dna_links.specs.Sending.{Sent, sent_as, message_sent, sent_step, truth_as}
-use Rattle.dna_links.specs.Arriving.{message_arrived, arrived_step}
-use Rattle.dna_leaving.specs.Records.{LinkRules, LinkRecord, OfUser, Sends, Keeps, OfNoLink, links_then, next_links}
-use Rattle.dna_leaving.specs.LeftOut.{LeftOut, source_of, destination_of, event_out, kept_out, message_out, is_out}
-use Rattle.dna_leaving.specs.Left.{Judged, links_left, truth_left, sent_left, left_of_result, renumbered}
-use Rattle.dna_leaving.specs.Right.{AreFit, LinkFits, IsOfJudged, EventBinds, MessageBinds, NamesJudged, IsRight}
 use Rattle.dna_leaving.proofs.Effects.{AllFit, kept_fit}
 use Rattle.dna_leaving.proofs.After.{after_left, after_out, after_fit, after_grows, SameNodes, after_nodes}
 use Rattle.dna_leaving.proofs.Asked.{RowFits, AnswersLeft, row_left, check_left}

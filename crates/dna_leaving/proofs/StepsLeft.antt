@@ -1,19 +1,9 @@
 -- What is left of a step that sends no message of the links, and of one of the user.
-use Rattle.std.proofs.Common.{◌≡◌, ℕ, ◌+◌, ◌<◌, ◌≤◌, Bool, true, false, not, cond, ◌⊎◌, inl, inr, Option, Some, None, List, [], ◌∷◌, ◌++◌, map}
-use Rattle.std.proofs.Common.{length}
-use Rattle.std.proofs.Common.{Ok, refl, sym, ap, arith}
-use Rattle.std.specs.Prelude.{slice_get}
-use Rattle.std.proofs.lemmas.List.{map-append, length-map}
-use Rattle.two_nodes.proofs.NumberedSteps.{at_pushed}
-use Rattle.dna_links.specs.declared.queue.Queues.{Queues}
-use Rattle.dna_links.specs.User.{LinkEventValue}
-use Rattle.dna_links.specs.TrueSegments.{Numbers}
-use Rattle.dna_links.specs.TrueLinks.{Links, links_user}
-use Rattle.dna_links.specs.Runs.{SentMessage, LinkSide, sends, keeps, ByUser, SendsNone, Passes}
-use Rattle.dna_leaving.specs.Records.{LinkRecord, OfUser}
-use Rattle.dna_leaving.specs.LeftOut.{LeftOut, event_out, is_out}
-use Rattle.dna_leaving.specs.Left.{Judged, links_left}
-use Rattle.dna_leaving.specs.Worlds.{other_out, other_judged, message_left, side_left, events_left, AreBound}
+use Rattle.dna_leaving.proofs.Prelude.{◌≡◌, ℕ, ◌+◌, ◌<◌, ◌≤◌, Bool, true, false, not, cond, ◌⊎◌, inl, inr, Option, Some, None, List, [], ◌∷◌, ◌++◌}
+use Rattle.dna_leaving.proofs.Prelude.{map, length, Ok, refl, sym, ap, arith, slice_get, map-append, length-map, at_pushed, Queues, LinkEventValue}
+use Rattle.dna_leaving.proofs.Prelude.{Numbers, Links, links_user, SentMessage, LinkSide, sends, keeps, ByUser, SendsNone, Passes, LinkRecord}
+use Rattle.dna_leaving.proofs.Prelude.{OfUser, LeftOut, event_out, is_out, Judged, links_left, other_out, other_judged, message_left, side_left}
+use Rattle.dna_leaving.proofs.Prelude.{events_left, AreBound}
 use Rattle.dna_leaving.proofs.Units.{UnitRight}
 use Rattle.dna_leaving.proofs.Sides.{SideRight, Follows, Stays, Does, follows_as, RecordRight, event_right}
 use Rattle.dna_leaving.proofs.Sides.{left_is, unseen, mine_next, sent_before, theirs_next}

@@ -1,34 +1,14 @@
 -- A message that is sent: where it is judged at its receiver it is judged at its sender, and it names links that are there, and judged ones.
-use Rattle.std.proofs.Common.{◌≡◌, ℕ, ◌≤◌, Bool, true, false, not, ◌&&◌, cond, eqb, ltb, ◌==◌, Option, Some, None, length, Result, Ok, Err, refl}
-use Rattle.std.proofs.Common.{sym, ap, ◌∙◌}
-use Rattle.std.proofs.Common.{subst, arith, eqb-true, lt-ltb, ltb-true}
-use Rattle.std.specs.Prelude.{slice_get, IfSome}
-use Rattle.std.proofs.lemmas.Bool.{and_parts}
-use Rattle.dna_packet.specs.Nsp.{NspValue, DataSegment, LinkService, DataAck, OtherDataAck, ConnectAck, NoOperation, ConnectInitiate, ConnectConfirm}
-use Rattle.dna_packet.specs.Nsp.{DisconnectInitiate, DisconnectConfirm}
-use Rattle.dna_station.specs.declared.link_refusal.LinkRefusal.{LinkRefusal}
-use Rattle.dna_station.specs.declared.link_refusal.LinkRefusal.TheVariants.{NoLink, WrongNode}
-use Rattle.dna_links.specs.declared.port.Port.{Port}
-use Rattle.dna_links.specs.declared.port.LinkTest.{LinkTest}
-use Rattle.dna_links.specs.declared.port.LinkTest.TheVariants.{TheLink, OpenedAt}
-use Rattle.dna_links.specs.declared.queue.Queues.{Queues}
-use Rattle.dna_links.specs.declared.queue.Queues.TheVariants.{Without, With}
-use Rattle.dna_links.specs.LookUps.{passes, is_at, is_live}
-use Rattle.dna_links.specs.SegmentBook.{SegmentBook}
-use Rattle.dna_links.specs.Links.{LinkOf, LinksOf, Carried, with_seen}
-use Rattle.dna_links.specs.Queues.{in_use, with_in_use}
-use Rattle.dna_links.specs.Sending.{Sent, message_sent, sent_step}
-use Rattle.dna_links.specs.TrueSegments.{TrueSegments, Numbers, true_segments}
-use Rattle.dna_links.specs.TrueLinks.{Links, links_sent}
-use Rattle.dna_links.specs.Runs.{SentMessage}
-use Rattle.dna_leaving.specs.Marks.{Marks}
-use Rattle.dna_leaving.specs.LeftOut.{LeftOut, nothing_out, source_of, destination_of, event_out, sent_out, kept_out, is_judged_there}
-use Rattle.dna_leaving.specs.LeftOut.{message_out, is_out}
-use Rattle.dna_leaving.specs.Records.{true_rules, LinkRecord, OfUser, Sends, Keeps, OfNoLink}
-use Rattle.dna_links.specs.User.{LinkEventValue, Open, Accept, Reject, In, Up, Close, Abort, Boot}
-use Rattle.dna_leaving.specs.Left.{Judged}
-use Rattle.dna_leaving.specs.Right.{OwnFits, FarFits, IsOneAtZero, AreFit, IsOfJudged, MessageBinds, NamesJudged}
-use Rattle.dna_leaving.specs.Worlds.{other_out, other_judged}
+use Rattle.dna_leaving.proofs.Prelude.{◌≡◌, ℕ, ◌≤◌, Bool, true, false, not, ◌&&◌, cond, eqb, ltb, ◌==◌, Option, Some, None, length, Result, Ok, Err}
+use Rattle.dna_leaving.proofs.Prelude.{refl, sym, ap, ◌∙◌, subst, arith, eqb-true, lt-ltb, ltb-true, slice_get, IfSome, and_parts, NspValue}
+use Rattle.dna_leaving.proofs.Prelude.{DataSegment, LinkService, DataAck, OtherDataAck, ConnectAck, NoOperation, ConnectInitiate, ConnectConfirm}
+use Rattle.dna_leaving.proofs.Prelude.{DisconnectInitiate, DisconnectConfirm, LinkRefusal, NoLink, WrongNode, Port, LinkTest, TheLink, OpenedAt}
+use Rattle.dna_leaving.proofs.Prelude.{Queues, Without, With, passes, is_at, is_live, SegmentBook, LinkOf, LinksOf, Carried, with_seen, in_use}
+use Rattle.dna_leaving.proofs.Prelude.{with_in_use, Sent, message_sent, sent_step, TrueSegments, Numbers, true_segments, Links, links_sent}
+use Rattle.dna_leaving.proofs.Prelude.{SentMessage, Marks, LeftOut, nothing_out, source_of, destination_of, event_out, sent_out, kept_out}
+use Rattle.dna_leaving.proofs.Prelude.{is_judged_there, message_out, is_out, true_rules, LinkRecord, OfUser, Sends, Keeps, OfNoLink, LinkEventValue}
+use Rattle.dna_leaving.proofs.Prelude.{Open, Accept, Reject, In, Up, Close, Abort, Boot, Judged, OwnFits, FarFits, IsOneAtZero, AreFit, IsOfJudged}
+use Rattle.dna_leaving.proofs.Prelude.{MessageBinds, NamesJudged, other_out, other_judged}
 use Rattle.dna_leaving.proofs.LookUps.{its_port, look_holds}
 use Rattle.dna_leaving.proofs.Asked.{in_use_is}
 use Rattle.dna_leaving.proofs.Answered.{IfMade, check_holds}

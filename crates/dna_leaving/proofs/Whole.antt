@@ -1,10 +1,7 @@
 -- Where all is judged nothing is left out, and each number stays.
-use Rattle.std.proofs.Common.{◌≡◌, ℕ, zero, suc, true, Option, Some, None, List, [], ◌∷◌, map, option_map, refl, ap, ap₂, ◌∙◌, cond}
-use Rattle.dna_links.specs.Links.{LinkOf, LinksOf, LinkTruth}
-use Rattle.dna_leaving.specs.Marks.{Marks, judged_of, rank}
-use Rattle.dna_leaving.specs.Records.{LinkRecord, OfUser, Sends, Keeps, OfNoLink}
-use Rattle.dna_leaving.specs.LeftOut.{nothing_out}
-use Rattle.dna_leaving.specs.Left.{all_judged, link_left, links_left, truth_left, renumbered, record_left}
+use Rattle.dna_leaving.proofs.Prelude.{◌≡◌, ℕ, zero, suc, true, Option, Some, None, List, [], ◌∷◌, map, option_map, refl, ap, ap₂, ◌∙◌, cond}
+use Rattle.dna_leaving.proofs.Prelude.{LinkOf, LinksOf, LinkTruth, Marks, judged_of, rank, LinkRecord, OfUser, Sends, Keeps, OfNoLink, nothing_out}
+use Rattle.dna_leaving.proofs.Prelude.{all_judged, link_left, links_left, truth_left, renumbered, record_left}
 use Rattle.dna_leaving.proofs.Units.{no_record_out}
 
 abbrev all : Marks

@@ -1,22 +1,11 @@
 -- What is left of a packet that is kept, and of any step.
-use Rattle.std.proofs.Common.{◌≡◌, ℕ, ◌+◌, ◌<◌, ◌≤◌, Bool, true, false, not, cond, Option, Some, None, List, [], map}
-use Rattle.std.proofs.Common.{length}
-use Rattle.std.proofs.Common.{Result, Ok, refl, sym, ap, ◌∙◌, arith, option_map}
-use Rattle.std.specs.Prelude.{slice_get}
-use Rattle.std.proofs.lemmas.Option.{slice_get-map, slice_get_within}
-use Rattle.dna_station.specs.declared.link_refusal.LinkRefusal.{LinkRefusal}
-use Rattle.dna_links.specs.declared.queue.Queues.{Queues}
-use Rattle.dna_links.specs.User.{LinkEventValue}
-use Rattle.dna_links.specs.Arriving.{of_partner}
-use Rattle.dna_links.specs.TrueSegments.{Numbers}
-use Rattle.dna_links.specs.TrueLinks.{Links, links_arrived}
-use Rattle.dna_links.specs.Runs.{SentMessage, LinkSide, LinkStep, sends, keeps, ByUser, SendsNone, Composes, Passes}
+use Rattle.dna_leaving.proofs.Prelude.{◌≡◌, ℕ, ◌+◌, ◌<◌, ◌≤◌, Bool, true, false, not, cond, Option, Some, None, List, [], map, length, Result, Ok}
+use Rattle.dna_leaving.proofs.Prelude.{refl, sym, ap, ◌∙◌, arith, option_map, slice_get, slice_get-map, slice_get_within, LinkRefusal, Queues}
+use Rattle.dna_leaving.proofs.Prelude.{LinkEventValue, of_partner, Numbers, Links, links_arrived, SentMessage, LinkSide, LinkStep, keeps}
+use Rattle.dna_leaving.proofs.Prelude.{ByUser, SendsNone, Composes, Passes, rank, LinkRecord, OfUser, Sends, Keeps, links_then, LeftOut, is_out}
+use Rattle.dna_leaving.proofs.Prelude.{Judged, links_left, truth_left, judged_then, other_out, other_judged, message_left, side_left, AreBound}
+use Rattle.dna_leaving.proofs.Prelude.{record_of}
 use Rattle.dna_links.specs.Runs as runs
-use Rattle.dna_leaving.specs.Marks.{rank}
-use Rattle.dna_leaving.specs.Records.{LinkRecord, OfUser, Sends, Keeps, links_then}
-use Rattle.dna_leaving.specs.LeftOut.{LeftOut, is_out}
-use Rattle.dna_leaving.specs.Left.{Judged, links_left, truth_left, judged_then}
-use Rattle.dna_leaving.specs.Worlds.{other_out, other_judged, message_left, side_left, AreBound, record_of}
 use Rattle.dna_leaving.proofs.Lists.{marked_before}
 use Rattle.dna_leaving.proofs.Units.{UnitRight}
 use Rattle.dna_leaving.proofs.Sides.{SideRight, Follows, Does, follows_as, rank_as, RecordRight, event_right, packet_right, unit_right}

@@ -45,8 +45,10 @@ pub fn cut_segments()
 /// partners.
 pub fn cut_link_steps()
     ensures start { (node peer : ℕ) → cut_links Without (new_links node peer) ≡ new_wire_links node peer }
-    ensures user { (s : Links) (event : LinkEventValue) → cut_result Without (links_user Without s event) ≡ wire_links_user Without (cut_links Without s) event }
-    ensures sent { (s : Links) (packet : Carried) → AreOrdered s → cut_sent Without (links_sent Without s packet) ≡ wire_links_sent Without (cut_links Without s) packet }
+    ensures user { (s : Links) (event : LinkEventValue) →
+        cut_result Without (links_user Without s event) ≡ wire_links_user Without (cut_links Without s) event }
+    ensures sent { (s : Links) (packet : Carried) → AreOrdered s →
+        cut_sent Without (links_sent Without s packet) ≡ wire_links_sent Without (cut_links Without s) packet }
     ensures arrived { (rule : PartnerRule) (s : Links) (packet : Carried) (truth : LinkTruth Numbers) → AreOrdered s →
         ArrivesNear rule s packet.message truth
         → cut_result Without (links_arrived Without rule s packet truth) ≡ wire_links_arrived Without rule (cut_links Without s) packet truth.tag }

@@ -1,13 +1,7 @@
 -- Lists whose numbers are bytes: their parts, words and addresses in them, and one of them changed.
-use Rattle.std.proofs.Common.{◌≡◌, ℕ, zero, suc, ◌/◌, ◌%◌, ◌<◌, ◌≤◌, Bool, true, ◌&&◌, List, [], ◌∷◌, ◌++◌, refl, ap₂, arith, lt-ltb, ltb-true}
-use Rattle.std.specs.Prelude.{bit_xor, drop, length, slice_index, slice_set, take}
-use Rattle.std.proofs.lemmas.Bool.{and_parts}
-use Rattle.std.proofs.lemmas.Nat.{xor_of_8}
-use Rattle.wire_base.proofs.BlockCheckTests.{AreBytes-append, AreBytes-drop, AreBytes-take}
-use Rattle.ddcmp_msg.proofs.Units.{IsBytes-head, IsBytes-rest}
-use Rattle.dna_packet.specs.Fields.{word}
-use Rattle.dna_play.specs.HasLine.{are_bytes}
-use Rattle.dna_play.specs.Receipt.{damaged}
+use Rattle.dna_play.proofs.Prelude.{◌≡◌, ℕ, zero, suc, ◌/◌, ◌%◌, ◌<◌, ◌≤◌, Bool, true, ◌&&◌, List, [], ◌∷◌, ◌++◌, refl, ap₂, arith, lt-ltb}
+use Rattle.dna_play.proofs.Prelude.{ltb-true, bit_xor, drop, length, slice_index, slice_set, take, and_parts, xor_of_8, AreBytes-append}
+use Rattle.dna_play.proofs.Prelude.{AreBytes-drop, AreBytes-take, IsBytes-head, IsBytes-rest, word, are_bytes, damaged}
 
 -- a list of bytes that is not too long
 pub record HasBytes (most : ℕ) (bytes : List ℕ) : Type 0 where

@@ -1,7 +1,5 @@
 -- What holds of every element of a list, and still does where an element is changed, added or dropped.
-use Rattle.std.proofs.Common.{◌≡◌, ℕ, zero, suc, Some, List, [], ◌∷◌, ◌++◌, subst}
-use Rattle.std.specs.Prelude.{drop, slice_get, slice_set}
-use Rattle.std.specs.List.{AllByRecursion, remove}
+use Rattle.dna_play.proofs.Prelude.{◌≡◌, ℕ, zero, suc, Some, List, [], ◌∷◌, ◌++◌, subst, drop, slice_get, slice_set, AllByRecursion, remove}
 
 module _ {X : Type 0} (P : X → Type 0) where
   abbrev All : List X → Type 0

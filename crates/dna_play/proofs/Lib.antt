@@ -1,3 +1,5 @@
+-- the words that all other files share
+mod Prelude
 -- lists of bytes, and what holds of each element of a list
 pub mod Bytes
 pub mod EachElement

@@ -5,7 +5,7 @@ use Rattle.ddcmp_msg.specs.Message.{IsBytes}
 use Rattle.wire_base.specs.Side.{side_letter}
 use Rattle.capture_record.specs.declared.limit.TheConstants.{MAX_HINT, MAX_UNIT, MAX_MESSAGE}
 use Rattle.capture.specs.declared.fault.Departure.{Departure}
-use Rattle.capture.specs.declared.fault.Departure.TheVariants.{Syntax, TooLong, TooMany}
+use Rattle.capture.specs.declared.fault.Departure.TheVariants.{Syntax, TooLong, TooMany, Part}
 use Rattle.capture.specs.Text.{bytes_text, spaced}
 use Rattle.capture_record.specs.Range.{IsLink}
 use Rattle.capture.specs.Listed.{Listed, ListForm, item_line, IsList, BeginsWithList, ItemDeparts, ListHeadDeparts}
@@ -88,6 +88,7 @@ abbrev pub WordsDepart : Departure → List ℕ → Type 0
 WordsDepart TooMany line = ⊥
 WordsDepart TooLong line = (step : ScriptStep) × HasSpelling step × ¬ (IsShort step) × (line ≡ line_text step)
 WordsDepart Syntax line = (step : ScriptStep) → HasSpelling step → line ≡ line_text step → ⊥
+WordsDepart Part line = ⊥
 
 -- ---- the text
 

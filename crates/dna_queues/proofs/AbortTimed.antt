@@ -1,36 +1,17 @@
 -- A call is given up by its user: what it says of it until then is composed before, and its CI may go after that.
-use Rattle.std.proofs.Common.{◌≡◌, ℕ, Bool, true, false, Option, Some, None, List, ◌∷◌, Ok, Err, refl, sym, ap, ap₂, ◌∙◌, subst}
-use Rattle.std.specs.Prelude.{slice_get}
-use Rattle.dna_station.specs.declared.link_refusal.LinkRefusal.TheVariants.{NoLink, LinkState}
-use Rattle.dna_links.specs.declared.port.Phase.{Phase}
-use Rattle.dna_links.specs.declared.port.Phase.TheVariants.{Calling, Called, Ended}
-use Rattle.dna_links.specs.declared.port.Port.{Port}
-use Rattle.dna_links.specs.declared.port.LinkTest.TheVariants.{LiveAt}
-use Rattle.dna_links.specs.declared.queue.Queues.TheVariants.{With}
-use Rattle.dna_links.specs.LookUps.{passes, is_live, is_called, is_calling}
-use Rattle.dna_links.specs.Links.{changed}
-use Rattle.dna_links.specs.Queues.{in_use, ended, drops, drops_segments, call_of}
-use Rattle.dna_links.specs.LinkBook.{user_step}
-use Rattle.dna_links.specs.User.{Abort}
-use Rattle.dna_links.specs.TrueSegments.{TrueSegments, true_segments}
+use Rattle.dna_queues.proofs.Prelude.{◌≡◌, ℕ, Bool, true, Option, Some, List, ◌∷◌, Ok, Err, refl, sym, ap, ap₂, ◌∙◌, subst, slice_get}
+use Rattle.dna_queues.proofs.Prelude.{NoLink, Phase, Calling, Called, Ended, Port, LiveAt, With, passes, is_live, is_called, is_calling}
+use Rattle.dna_queues.proofs.Prelude.{changed, in_use, ended, drops, drops_segments, call_of, user_step, Abort, TrueSegments, true_segments}
+use Rattle.dna_queues.proofs.Prelude.{checked, LinkRecord, OfUser, late_segments, Node, UserDoes}
 use Rattle.dna_links.specs.TrueLinks as machine
-use Rattle.dna_links.proofs.Tables.Outcomes.{checked}
-use Rattle.dna_queues.proofs.Facts.{passed_check, same_Ok}
-use Rattle.dna_queues.specs.Records.{LinkRecord, OfUser}
-use Rattle.dna_queues.specs.Hidden.{late_segments, Node}
-use Rattle.dna_queues.specs.Made.{UserDoes}
+use Rattle.dna_queues.proofs.{Facts.passed_check, Facts.same_Ok, Delivered.given_user, Sending.live_owns, Moved.moved, Moved.gone_before}
+use Rattle.dna_queues.proofs.{SentTimed.Sound, UserTimed.Changes, UserTimed.one_sound, ClosedTimed.passes_phase}
 use Rattle.dna_queues.proofs.Goes.{Link, phase_of, test_of, use_port, at_node, node_port, uncalled_use}
-use Rattle.dna_queues.proofs.Delivered.{given_user}
 use Rattle.dna_queues.proofs.LinkLists.{IsUnique, IsSet, set_changed, at_found}
-use Rattle.dna_queues.proofs.Sending.{live_owns}
 use Rattle.dna_queues.proofs.Turns.{Began, CanWait, is_in_same}
-use Rattle.dna_queues.proofs.Moved.{moved, gone_before}
 use Rattle.dna_queues.proofs.Hide.{LateLink, hide, found}
 use Rattle.dna_queues.proofs.MachineSends.{IsUsed, used, live_at}
 use Rattle.dna_queues.proofs.Dues.{Went, went_node, AreSane}
-use Rattle.dna_queues.proofs.SentTimed.{Sound}
-use Rattle.dna_queues.proofs.UserTimed.{Changes, one_sound}
-use Rattle.dna_queues.proofs.ClosedTimed.{passes_phase}
 
 module _ (s : machine.Links) (sane : AreSane s) (later : List LinkRecord) (left : machine.Links) (rest : AreSane left → Sound left later) where
   pub abort_sound : (own : ℕ) → user_step With true_segments s (Abort own) ≡ Ok left → Sound s (OfUser (Abort own) ∷ later)

@@ -1,23 +1,12 @@
 -- A link of the node with queues: what it may send, what it is seen as, and what acting on a packet makes of it.
-use Rattle.std.proofs.Common.{◌≡◌, ℕ, ◌-◌, ◌≤◌, Bool, true, false, ◌||◌, cond, Option, Some, None, [], refl, sym, ap, ◌∙◌, subst}
-use Rattle.std.proofs.lemmas.Bool.{and_parts, cond_both}
-use Rattle.dna_packet.specs.Nsp.{NspValue, DataSegment, LinkService, DataAck, OtherDataAck, ConnectConfirm, DisconnectInitiate, DisconnectConfirm}
-use Rattle.dna_links.specs.declared.port.Phase.{Phase}
-use Rattle.dna_links.specs.declared.port.Phase.TheVariants.{Calling, Confirming, Running, Disconnecting, Ended}
-use Rattle.dna_links.specs.declared.port.LinkTest.TheVariants.{TheLink, CallingAt, ActedOn}
-use Rattle.dna_links.specs.declared.queue.Said.{Said}
-use Rattle.dna_links.specs.declared.queue.Said.TheVariants.{Nothing, OfRun, Disconnect}
-use Rattle.dna_links.specs.LookUps.{passes, is_in, is_live, is_at, is_calling, is_called, is_connected, has_both}
-use Rattle.dna_links.specs.Segmentation.{piece_of, hold}
-use Rattle.dna_links.specs.Links.{LinkOf, LinkTruth}
-use Rattle.dna_links.specs.Queues.{is_silent, is_over}
-use Rattle.dna_links.specs.TrueSegments.{TrueSegments, Numbers, takes_segment, takes_acks}
-use Rattle.dna_links.proofs.Tables.Words.{AreAtMost}
-use Rattle.dna_queues.specs.Hidden.{LateSegments, over}
-use Rattle.dna_queues.proofs.Goes.{Link}
+use Rattle.dna_queues.proofs.Prelude.{◌≡◌, ℕ, ◌-◌, ◌≤◌, Bool, true, false, ◌||◌, cond, Option, Some, None, [], refl, sym, ap, ◌∙◌, subst, and_parts}
+use Rattle.dna_queues.proofs.Prelude.{cond_both, NspValue, DataSegment, LinkService, DataAck, OtherDataAck, ConnectConfirm, DisconnectInitiate}
+use Rattle.dna_queues.proofs.Prelude.{DisconnectConfirm, Phase, Calling, Confirming, Running, Disconnecting, Ended, TheLink, CallingAt, ActedOn}
+use Rattle.dna_queues.proofs.Prelude.{Said, Nothing, OfRun, Disconnect, passes, is_in, is_live, is_at, is_calling, is_called, is_connected}
+use Rattle.dna_queues.proofs.Prelude.{has_both, piece_of, hold, LinkOf, LinkTruth, is_silent, is_over, TrueSegments, Numbers, takes_segment}
+use Rattle.dna_queues.proofs.Prelude.{takes_acks, AreAtMost, LateSegments, over}
+use Rattle.dna_queues.proofs.{Goes.Link, Came.acks_taken, Facts.no_case, Facts.no_other}
 use Rattle.dna_queues.proofs.Ahead.{Seen, confirmed_if, ended_if, ran_if, taken_if, acted_as, takes_numbers}
-use Rattle.dna_queues.proofs.Came.{acks_taken}
-use Rattle.dna_queues.proofs.Facts.{no_case, no_other}
 
 abbrev pub LateLink : Type 0
 LateLink = LinkOf LateSegments

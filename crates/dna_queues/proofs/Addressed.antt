@@ -1,33 +1,16 @@
 -- Where an address is given, or a DC has it, what waits for it is acted on before; and its link then has nothing more to say of what is past.
-use Rattle.std.proofs.Common.{◌≡◌, ℕ, Bool, true, false, ◌&&◌, Option, Some, None, List, [], ◌∷◌, refl, sym, ap, ap₂, ◌∙◌, subst}
-use Rattle.std.specs.Prelude.{slice_get}
-use Rattle.std.proofs.lemmas.Option.{same_Some}
-use Rattle.dna_links.specs.declared.port.Phase.{Phase}
-use Rattle.dna_links.specs.declared.port.Phase.TheVariants.{Called, Ended}
-use Rattle.dna_links.specs.declared.port.Port.{Port}
-use Rattle.dna_links.specs.declared.port.LinkTest.{LinkTest}
-use Rattle.dna_links.specs.declared.port.LinkTest.TheVariants.{HasAddress, CalledBy}
-use Rattle.dna_links.specs.declared.queue.Queues.TheVariants.{With}
-use Rattle.dna_links.specs.LookUps.{passes, is_in, is_live, is_at}
-use Rattle.dna_links.specs.Links.{Carried, number_of, with_link, changed}
-use Rattle.dna_links.specs.Queues.{port_of_waiting}
+use Rattle.dna_queues.proofs.Prelude.{◌≡◌, ℕ, Bool, true, false, ◌&&◌, Option, Some, None, List, [], ◌∷◌, refl, sym, ap, ap₂, ◌∙◌, subst, slice_get}
+use Rattle.dna_queues.proofs.Prelude.{same_Some, Phase, Called, Ended, Port, LinkTest, HasAddress, CalledBy, passes, is_in, is_live, is_at}
+use Rattle.dna_queues.proofs.Prelude.{Carried, number_of, with_link, changed, port_of_waiting, SentMessage, IsFound, looked, Links, Node, waiting}
+use Rattle.dna_queues.proofs.Prelude.{link_it_is_for, link_it_is_of, IsFree, false_from_ne_true}
 use Rattle.dna_links.specs.TrueLinks as machine
-use Rattle.dna_links.specs.Runs.{SentMessage}
-use Rattle.dna_links.proofs.Tables.Outcomes.{IsFound, looked}
-use Rattle.dna_queues.proofs.Facts.{dead_phase, by_test}
-use Rattle.dna_queues.specs.Hidden.{Links, Node, waiting, link_it_is_for, link_it_is_of}
-use Rattle.dna_queues.specs.Made.{IsFree}
+use Rattle.dna_queues.proofs.{Facts.dead_phase, Facts.by_test, Acting.ended_late, Turns.Sane, Early.CanGo, Early.AreEarly, Hide.LateLink, Hide.hide}
+use Rattle.dna_queues.proofs.{Prepared.due_none, Prepared.set_timed_but}
 use Rattle.dna_queues.proofs.Goes.{Link, phase_of, at_node, node_port, node_own, at_node_some}
-use Rattle.dna_queues.proofs.Acting.{ended_late}
 use Rattle.dna_queues.proofs.LinkLists.{IsSet, set_changed, none_passes, number_same, there_too}
-use Rattle.dna_queues.proofs.Turns.{Sane}
-use Rattle.dna_queues.proofs.Early.{CanGo, AreEarly}
-use Rattle.dna_queues.proofs.Hide.{LateLink, hide}
 use Rattle.dna_queues.proofs.Dues.{put_packets, none_link, Due, put, put_here, Went, went_node, AreDue, AreSane}
 use Rattle.dna_queues.proofs.Timed.{Awaits, kept_as, is_end, packets_of, Timed, unique_hidden}
-use Rattle.dna_queues.proofs.Prepared.{due_none, set_timed_but}
 use Rattle.dna_queues.proofs.Pending.{AreGood, GoodFor, then_ended, Flushed, flush}
-use Rattle.std.proofs.lemmas.Bool.{false_from_ne_true}
 
 -- the link of the node as what all would come to has it
 abbrev pub stripped : Link → Link → LateLink

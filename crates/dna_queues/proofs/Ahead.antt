@@ -1,21 +1,11 @@
 -- What a link comes to once what waits for it is acted on, beside the link of the machine.
-use Rattle.std.proofs.Common.{◌≡◌, ℕ, ◌-◌, ◌≤◌, Bool, true, false, ◌||◌, Option, Some, None, List, [], ◌∷◌, refl, sym, ap, ◌∙◌, arith, cond}
-use Rattle.std.proofs.lemmas.Bool.{and_parts}
-use Rattle.dna_packet.specs.Nsp.{SegmentValue, NspValue, DataSegment, LinkService, DataAck, OtherDataAck, ConnectAck, NoOperation, ConnectInitiate}
-use Rattle.dna_packet.specs.Nsp.{ConnectConfirm, DisconnectInitiate, DisconnectConfirm}
-use Rattle.dna_links.specs.declared.port.Phase.{Phase}
-use Rattle.dna_links.specs.declared.port.Phase.TheVariants.{Calling, Called, Confirming, Running, Disconnecting, Ended}
-use Rattle.dna_links.specs.declared.port.Port.{Port}
-use Rattle.dna_links.specs.declared.port.LinkTest.TheVariants.{TheLink, CallingAt, ActedOn}
-use Rattle.dna_links.specs.LookUps.{passes, is_in, is_live, is_at, is_calling, is_connected, has_both}
-use Rattle.dna_links.specs.Segmentation.{Piece, piece_of, hold}
-use Rattle.dna_links.specs.Links.{LinkTruth}
-use Rattle.dna_links.specs.TrueSegments.{Numbers}
-use Rattle.dna_links.specs.Runs.{SentMessage}
-use Rattle.dna_links.proofs.Tables.Words.{AreAtMost}
-use Rattle.dna_queues.proofs.Facts.{not_both}
+use Rattle.dna_queues.proofs.Prelude.{◌≡◌, ℕ, ◌-◌, ◌≤◌, Bool, true, false, ◌||◌, Option, Some, None, List, [], ◌∷◌, refl, sym, ap, ◌∙◌, arith, cond}
+use Rattle.dna_queues.proofs.Prelude.{and_parts, SegmentValue, NspValue, DataSegment, LinkService, DataAck, OtherDataAck, ConnectAck, NoOperation}
+use Rattle.dna_queues.proofs.Prelude.{ConnectInitiate, ConnectConfirm, DisconnectInitiate, DisconnectConfirm, Phase, Calling, Called, Confirming}
+use Rattle.dna_queues.proofs.Prelude.{Running, Disconnecting, Ended, Port, TheLink, CallingAt, ActedOn, passes, is_in, is_live, is_at, is_calling}
+use Rattle.dna_queues.proofs.Prelude.{is_connected, has_both, Piece, piece_of, hold, LinkTruth, Numbers, SentMessage, AreAtMost}
+use Rattle.dna_queues.proofs.{Facts.not_both, Goes.Link, Goes.phase_of}
 use Rattle.dna_queues.proofs.Pieces.{Below, below_on, below_hold}
-use Rattle.dna_queues.proofs.Goes.{Link, phase_of}
 
 -- what is seen of a link in what comes for it; `used` is the phase in which it ended, else its own
 pub record Seen : Type 0 where

@@ -1,18 +1,9 @@
 -- What all would come to: the links as the machine has them.
-use Rattle.std.proofs.Common.{◌≡◌, ℕ, true, ◌&&◌, ◌==◌, Option, Some, sym, ap, ap₂, ◌∙◌}
-use Rattle.std.specs.Prelude.{slice_get}
-use Rattle.std.proofs.lemmas.Option.{same_Some}
-use Rattle.dna_links.specs.declared.port.Port.{Port}
-use Rattle.dna_links.specs.declared.port.LinkTest.{LinkTest}
-use Rattle.dna_links.specs.LookUps.{passes}
-use Rattle.dna_links.specs.Links.{number_of}
+use Rattle.dna_queues.proofs.Prelude.{◌≡◌, ℕ, true, ◌&&◌, ◌==◌, Option, Some, sym, ap, ap₂, ◌∙◌, slice_get, same_Some, Port, LinkTest, passes}
+use Rattle.dna_queues.proofs.Prelude.{number_of, SentMessage, Node, waiting, link_it_is_for}
 use Rattle.dna_links.specs.TrueLinks as machine
-use Rattle.dna_links.specs.Runs.{SentMessage}
-use Rattle.dna_queues.specs.Hidden.{Node, waiting, link_it_is_for}
-use Rattle.dna_queues.proofs.Goes.{Link, node_own}
-use Rattle.dna_queues.proofs.LinkLists.{number_same, there_too}
-use Rattle.dna_queues.proofs.Hide.{LateLink, hide}
-use Rattle.dna_queues.proofs.Dues.{Due, AreSane}
+use Rattle.dna_queues.proofs.{Goes.Link, Goes.node_own, LinkLists.number_same, LinkLists.there_too, Hide.LateLink, Hide.hide, Dues.Due}
+use Rattle.dna_queues.proofs.{Dues.AreSane}
 use Rattle.dna_queues.proofs.Timed.{kept_as, Timed, unique_hidden}
 use Rattle.dna_queues.proofs.Pending.{ComesAll, comes_all, then_ended}
 use Rattle.dna_queues.proofs.Addressed.{stripped, stripped_is, good_timed}

@@ -1,39 +1,20 @@
 -- A call is answered: its link gets an address, and what waits for that is acted on before.
-use Rattle.std.proofs.Common.{◌≡◌, ℕ, ◌≤◌, Bool, true, false, Option, Some, None, List, [], ◌∷◌, Ok, Err, refl, sym, ap, ap₂, ◌∙◌, subst, eqb-true}
-use Rattle.std.specs.Prelude.{slice_get}
-use Rattle.dna_station.specs.declared.link_refusal.LinkRefusal.TheVariants.{NoLink, AddressInUse}
-use Rattle.dna_links.specs.declared.port.Phase.{Phase}
-use Rattle.dna_links.specs.declared.port.Phase.TheVariants.{Called, Confirming, Disconnecting, Ended}
-use Rattle.dna_links.specs.declared.port.Port.{Port}
-use Rattle.dna_links.specs.declared.port.LinkTest.TheVariants.{LiveAt, CalledBy}
-use Rattle.dna_links.specs.declared.queue.Queues.TheVariants.{Without, With}
-use Rattle.dna_links.specs.declared.queue.LinkQueue.{LinkQueue}
-use Rattle.dna_links.specs.LookUps.{is_live, is_at, is_called}
-use Rattle.dna_links.specs.Links.{Carried, number_of, with_link, begun, changed}
-use Rattle.dna_links.specs.Queues.{in_use, port_of_waiting, freed, goes_on}
-use Rattle.dna_links.specs.inner.Forms.{opened, answered}
-use Rattle.dna_links.specs.LinkBook.{user_step}
-use Rattle.dna_links.specs.User.{LinkEventValue, Open, Accept, Reject}
-use Rattle.dna_links.specs.TrueSegments.{true_segments}
+use Rattle.dna_queues.proofs.Prelude.{◌≡◌, ℕ, ◌≤◌, Bool, true, false, Option, Some, None, List, [], ◌∷◌, Ok, Err, refl, sym, ap, ap₂, ◌∙◌, subst}
+use Rattle.dna_queues.proofs.Prelude.{eqb-true, slice_get, NoLink, AddressInUse, Phase, Called, Confirming, Disconnecting, Ended, Port, LiveAt}
+use Rattle.dna_queues.proofs.Prelude.{CalledBy, Without, With, LinkQueue, is_live, is_at, is_called, Carried, number_of, with_link, begun, changed}
+use Rattle.dna_queues.proofs.Prelude.{in_use, port_of_waiting, freed, goes_on, opened, answered, user_step, LinkEventValue, Open, Accept, Reject}
+use Rattle.dna_queues.proofs.Prelude.{true_segments, IsFound, looked, LinkRecord, OfUser, late_segments, Links, Node, IsFree, MayBe, UserDoes}
+use Rattle.dna_queues.proofs.Prelude.{MadeByHidden, Makes, false_from_ne_true}
 use Rattle.dna_links.specs.TrueLinks as machine
-use Rattle.dna_links.proofs.Tables.Outcomes.{IsFound, looked}
-use Rattle.dna_queues.proofs.Facts.{not_both, same_Ok}
-use Rattle.dna_queues.specs.Records.{LinkRecord, OfUser}
-use Rattle.dna_queues.specs.Hidden.{late_segments, Links, Node}
-use Rattle.dna_queues.specs.Made.{IsFree, MayBe, UserDoes, MadeByHidden, Makes}
+use Rattle.dna_queues.proofs.{Facts.not_both, Facts.same_Ok, Given.freed_changed, Hide.LateLink, Hide.hide, Timed.Timed, SentTimed.Sound}
 use Rattle.dna_queues.proofs.Goes.{Link, phase_of, at_node, node_port, node_own}
-use Rattle.dna_queues.proofs.Given.{freed_changed}
 use Rattle.dna_queues.proofs.LinkLists.{IsSet, set_changed, at_none, at_found}
 use Rattle.dna_queues.proofs.Turns.{Began, has_past, IsMute, live_waits, live_use, live_node, called_phase}
 use Rattle.dna_queues.proofs.Early.{CanGo, AreEarly, none_before, none_refused}
-use Rattle.dna_queues.proofs.Hide.{LateLink, hide}
 use Rattle.dna_queues.proofs.Dues.{put_packets, none_link, Due, put, put_here, AreSane}
-use Rattle.dna_queues.proofs.Timed.{Timed}
 use Rattle.dna_queues.proofs.Prepared.{due_none, set_timed, set_sane_free}
-use Rattle.dna_queues.proofs.SentTimed.{Sound}
 use Rattle.dna_queues.proofs.Addressed.{awaits_nothing, called_use, flushed, flushed_number, flushed_other}
 use Rattle.dna_queues.proofs.GivenTimed.{left, over, left_is, no_owner, left_sane, none_then, own_not_zero, Gives, gives, open_sound}
-use Rattle.std.proofs.lemmas.Bool.{false_from_ne_true}
 
 module _ (s : machine.Links) (sane : AreSane s) (own : ℕ) (one : 1 ≤ own) (none_live : number_of (LiveAt own) s ≡ None) where
   abbrev given : machine.Links
@@ -123,7 +104,8 @@ module _ (s : machine.Links) (sane : AreSane s) (own : ℕ) (one : 1 ≤ own) (n
                   ∙ ap (λ (d : Due). Some (hide d.link)) (put_here i i mine r.dues refl) in
                   let at_f = flushed_other s sane g.before n t own i l found.there not_own in
                   let same = sym ((freed_changed late_segments Without own f.next.links f.unique).other i (hide (g.before i).link) at_f
-                  (ap (λ (o : Option ℕ). is_at o own) (node_own (g.before i).link ∙ ap (λ (p : Port). p.own) (t.went i l found.there).port) ∙ not_own))
+                  (ap (λ (o : Option ℕ). is_at o own) (node_own (g.before i).link ∙ ap (λ (p : Port). p.own) (t.went i l found.there).port)
+                  ∙ not_own))
                   ∙ at_m in
                   let found_h : IsFound (CalledBy far) f.next.links i (hide l) = record {
                     found = flushed_number s sane g.before n t own (CalledBy far) (λ j x at has. called_use far x (sane.each j x at)) ∙ found.found;

@@ -1,21 +1,10 @@
 -- A packet that waits for a link, acted on by the node with queues: it changes the link with that address.
-use Rattle.std.proofs.Common.{◌≡◌, ℕ, Bool, true, ◌||◌, cond, Some, Result, Ok, refl, sym, ap, ap₂, ◌∙◌, subst, inl, inr}
-use Rattle.std.proofs.lemmas.Bool.{and_parts, or_right, or_cases}
-use Rattle.std.proofs.lemmas.Option.{same_Some}
-use Rattle.dna_packet.specs.Nsp.{NspValue, DataSegment, LinkService, DataAck, OtherDataAck, ConnectConfirm, DisconnectInitiate, DisconnectConfirm}
-use Rattle.dna_station.specs.declared.link_refusal.LinkRefusal.{LinkRefusal}
-use Rattle.dna_station.specs.declared.link_refusal.LinkRefusal.TheVariants.{CrossedLink}
-use Rattle.dna_links.specs.declared.port.Phase.TheVariants.{Calling}
-use Rattle.dna_links.specs.declared.port.Port.{Port}
-use Rattle.dna_links.specs.declared.port.LinkTest.{LinkTest}
-use Rattle.dna_links.specs.declared.port.LinkTest.TheVariants.{TheLink, CallingAt, ActedOn}
-use Rattle.dna_links.specs.declared.queue.Queues.TheVariants.{Without}
-use Rattle.dna_links.specs.LookUps.{passes, is_in, is_live, is_at, is_connected, has_both}
-use Rattle.dna_links.specs.Links.{LinkOf, LinksOf, LinkTruth, check, with_link, changed}
-use Rattle.dna_links.specs.Arriving.{of_partner, is_for, is_of_pair, message_arrived}
-use Rattle.dna_links.specs.TrueSegments.{Numbers, takes_segment, takes_acks}
-use Rattle.dna_links.proofs.Tables.Outcomes.{IsFound, looked, checked}
-use Rattle.dna_queues.specs.Hidden.{late_segments, Links, dstaddr}
+use Rattle.dna_queues.proofs.Prelude.{◌≡◌, ℕ, Bool, true, ◌||◌, cond, Some, Result, Ok, refl, sym, ap, ap₂, ◌∙◌, subst, inl, inr, and_parts}
+use Rattle.dna_queues.proofs.Prelude.{or_right, or_cases, same_Some, NspValue, DataSegment, LinkService, DataAck, OtherDataAck, ConnectConfirm}
+use Rattle.dna_queues.proofs.Prelude.{DisconnectInitiate, DisconnectConfirm, LinkRefusal, CrossedLink, Calling, Port, LinkTest, TheLink, CallingAt}
+use Rattle.dna_queues.proofs.Prelude.{ActedOn, Without, passes, is_in, is_live, is_at, is_connected, has_both, LinkOf, LinksOf, LinkTruth, check}
+use Rattle.dna_queues.proofs.Prelude.{with_link, changed, of_partner, is_for, is_of_pair, message_arrived, Numbers, takes_segment, takes_acks}
+use Rattle.dna_queues.proofs.Prelude.{IsFound, looked, checked, late_segments, Links, dstaddr}
 use Rattle.dna_queues.proofs.Acting.{LateLink, confirmed_late, ended_late, run_late, acts_as}
 use Rattle.dna_queues.proofs.LinkLists.{IsUnique, IsChanged, changed_none, changed_one, at_found, none_passes}
 use Rattle.dna_queues.proofs.Facts.{same_Ok}

@@ -1,36 +1,19 @@
 -- A packet that the machine acts on the node with queues may act on: what it does to the link with its address in both.
-use Rattle.std.proofs.Common.{◌≡◌, ℕ, Bool, true, false, ◌||◌, cond, Option, Some, None, Result, Ok, refl, sym, ap, ◌∙◌, subst, inl, inr}
-use Rattle.std.specs.Prelude.{slice_get}
-use Rattle.std.proofs.lemmas.Bool.{and_parts, cond_both, or_cases}
-use Rattle.std.proofs.lemmas.Option.{same_Some}
-use Rattle.dna_packet.specs.Nsp.{NspValue, DataSegment, LinkService, DataAck, OtherDataAck, ConnectConfirm, DisconnectInitiate, DisconnectConfirm}
-use Rattle.dna_station.specs.declared.link_refusal.LinkRefusal.{LinkRefusal}
-use Rattle.dna_station.specs.declared.link_refusal.LinkRefusal.TheVariants.{CrossedLink}
-use Rattle.dna_links.specs.declared.port.Phase.{Phase}
-use Rattle.dna_links.specs.declared.port.Phase.TheVariants.{Calling, Running, Disconnecting}
-use Rattle.dna_links.specs.declared.port.Port.{Port}
-use Rattle.dna_links.specs.declared.port.LinkTest.{LinkTest}
-use Rattle.dna_links.specs.declared.port.LinkTest.TheVariants.{TheLink, CallingAt, ActedOn}
-use Rattle.dna_links.specs.declared.queue.Queues.TheVariants.{Without, With}
-use Rattle.dna_links.specs.LookUps.{passes, is_in, is_live, is_called, is_at, is_connected, has_both}
-use Rattle.dna_links.specs.Links.{LinkTruth, check, with_link, changed, with_segments}
-use Rattle.dna_links.specs.Queues.{in_use, port_of_waiting, goes_on, ends_by_message}
-use Rattle.dna_links.specs.Arriving.{of_partner, is_for, is_of_pair, message_arrived}
-use Rattle.dna_links.specs.TrueSegments.{TrueSegments, Numbers, takes_segment, takes_acks, true_segments}
+use Rattle.dna_queues.proofs.Prelude.{◌≡◌, ℕ, Bool, true, false, ◌||◌, cond, Option, Some, None, Result, Ok, refl, sym, ap, ◌∙◌, subst, inl, inr}
+use Rattle.dna_queues.proofs.Prelude.{slice_get, and_parts, cond_both, or_cases, same_Some, NspValue, DataSegment, LinkService, DataAck}
+use Rattle.dna_queues.proofs.Prelude.{OtherDataAck, ConnectConfirm, DisconnectInitiate, DisconnectConfirm, LinkRefusal, CrossedLink, Phase, Calling}
+use Rattle.dna_queues.proofs.Prelude.{Running, Disconnecting, Port, LinkTest, TheLink, CallingAt, ActedOn, Without, With, passes, is_in, is_live}
+use Rattle.dna_queues.proofs.Prelude.{is_called, is_at, is_connected, has_both, LinkTruth, check, with_link, changed, with_segments, in_use}
+use Rattle.dna_queues.proofs.Prelude.{port_of_waiting, goes_on, ends_by_message, of_partner, is_for, is_of_pair, message_arrived, TrueSegments}
+use Rattle.dna_queues.proofs.Prelude.{Numbers, takes_segment, takes_acks, true_segments, IsFound, late_segments, Links, dstaddr}
 use Rattle.dna_links.specs.TrueLinks as machine
-use Rattle.dna_links.proofs.Tables.Outcomes.{IsFound}
-use Rattle.dna_queues.proofs.Facts.{connected_live, not_both}
-use Rattle.dna_queues.specs.Hidden.{late_segments, Links, dstaddr}
+use Rattle.dna_queues.proofs.{Facts.connected_live, Facts.not_both, Turns.Sane, Turns.Began, Starts.Starts, Hide.LateLink, Hide.hide, Timed.is_end}
 use Rattle.dna_queues.proofs.Goes.{Link, at_node, node_port, phase_of}
 use Rattle.dna_queues.proofs.Came.{confirmed_link, ended_link, run_link, came_as}
 use Rattle.dna_queues.proofs.Acting.{confirmed_late, ended_late, run_late, acts_as}
 use Rattle.dna_queues.proofs.LinkLists.{IsUnique, IsChanged, changed_as, found_one}
 use Rattle.dna_queues.proofs.Arrivals.{calling_owns, acted_owns, row_made, row_left, row_allowed, either, either_made, either_left}
 use Rattle.dna_queues.proofs.MachineArrivals.{ended_is, if_same, run_is, confirmed_is}
-use Rattle.dna_queues.proofs.Turns.{Sane, Began}
-use Rattle.dna_queues.proofs.Starts.{Starts}
-use Rattle.dna_queues.proofs.Hide.{LateLink, hide}
-use Rattle.dna_queues.proofs.Timed.{is_end}
 
 module _ (s left : machine.Links) (unique : IsUnique s) (truth : LinkTruth Numbers) (address : ℕ) where
   -- the node has the link with this address as the machine has it

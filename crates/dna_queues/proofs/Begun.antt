@@ -1,40 +1,16 @@
 -- A link begins in both, and what is kept for no link is acted on at once.
-use Rattle.std.proofs.Common.{◌≡◌, ℕ, true, ◌&&◌, ◌==◌, ◌⊎◌, inl, inr, Option, Some, None, List, [], ◌∷◌, ◌++◌, length}
-use Rattle.std.proofs.Common.{Result, Ok, refl, sym, ap, ap₂, ◌∙◌, subst, arith, append-nil, length-append}
-use Rattle.std.specs.Prelude.{slice_get}
-use Rattle.std.proofs.lemmas.Option.{slice_get_within}
-use Rattle.two_nodes.proofs.NumberedSteps.{at_pushed}
-use Rattle.dna_packet.specs.Nsp.{NspValue, ConnectAck, NoOperation, ConnectInitiate}
-use Rattle.dna_station.specs.declared.link_refusal.LinkRefusal.{LinkRefusal}
-use Rattle.dna_station.specs.declared.link_refusal.LinkRefusal.TheVariants.{WrongNode}
-use Rattle.dna_links.specs.declared.tag.LinkTag.{LinkTag}
-use Rattle.dna_links.specs.declared.port.Phase.TheVariants.{Calling, Called}
-use Rattle.dna_links.specs.declared.port.LinkTest.TheVariants.{LiveTo}
-use Rattle.dna_links.specs.declared.queue.Queues.TheVariants.{Without, With}
-use Rattle.dna_links.specs.LookUps.{is_at}
-use Rattle.dna_links.specs.Links.{begun, LinkTruth}
-use Rattle.dna_links.specs.LinkBook.{are_same}
-use Rattle.dna_links.specs.inner.Forms.{opened, called}
-use Rattle.dna_links.specs.Arriving.{of_partner, arrived_step, message_arrived}
-use Rattle.dna_links.specs.TrueSegments.{Numbers, true_segments}
+use Rattle.dna_queues.proofs.Prelude.{◌≡◌, ℕ, true, ◌&&◌, ◌==◌, ◌⊎◌, inl, inr, Option, Some, None, List, [], ◌∷◌, ◌++◌, length, Result, Ok, refl}
+use Rattle.dna_queues.proofs.Prelude.{sym, ap, ap₂, ◌∙◌, subst, arith, append-nil, length-append, slice_get, slice_get_within, at_pushed, NspValue}
+use Rattle.dna_queues.proofs.Prelude.{ConnectAck, NoOperation, ConnectInitiate, LinkRefusal, WrongNode, LinkTag, Calling, Called, LiveTo, Without}
+use Rattle.dna_queues.proofs.Prelude.{With, is_at, begun, LinkTruth, are_same, opened, called, of_partner, arrived_step, message_arrived, Numbers}
+use Rattle.dna_queues.proofs.Prelude.{true_segments, SentMessage, IsFound, looked, checked, AreAnswered, late_segments, Links, Node}
+use Rattle.dna_queues.proofs.Prelude.{dstaddr, link_it_is_for, link_it_is_of, waiting, ComesTo}
 use Rattle.dna_links.specs.TrueLinks as machine
-use Rattle.dna_links.specs.Runs.{SentMessage}
-use Rattle.dna_links.proofs.Tables.Outcomes.{IsFound, looked, checked}
-use Rattle.dna_queues.proofs.Facts.{passed_check, same_Ok}
-use Rattle.dna_queues.specs.Records.{AreAnswered, next_links}
+use Rattle.dna_queues.proofs.{Facts.passed_check, Facts.same_Ok, Goes.Link, Acting.LateLink, Follows.Follows, Lists.waiting_other}
+use Rattle.dna_queues.proofs.{Lists.waiting_none, LinkLists.at_none, MachineArrivals.Alike, MachineArrivals.number_alike, Waiting.AreOf}
+use Rattle.dna_queues.proofs.{Waiting.of_more, SentOn.Follow, Kept.comes_beside, Kept.came_alike, WaitsToGo.grows_itself}
 use Rattle.dna_queues.specs.Records as records
-use Rattle.dna_queues.specs.Hidden.{late_segments, Links, Node, dstaddr, link_it_is_for, link_it_is_of, waiting, ComesTo}
-use Rattle.dna_queues.proofs.Goes.{Link}
-use Rattle.dna_queues.proofs.Acting.{LateLink}
-use Rattle.dna_queues.proofs.Follows.{Follows}
-use Rattle.dna_queues.proofs.Lists.{waiting_other, waiting_none}
-use Rattle.dna_queues.proofs.LinkLists.{at_none}
-use Rattle.dna_queues.proofs.MachineArrivals.{Alike, number_alike}
-use Rattle.dna_queues.proofs.Waiting.{AreOf, of_more}
 use Rattle.dna_queues.proofs.Beside.{Beside, follows_as, eqb-other}
-use Rattle.dna_queues.proofs.SentOn.{Follow}
-use Rattle.dna_queues.proofs.Kept.{comes_beside, came_alike}
-use Rattle.dna_queues.proofs.WaitsToGo.{grows_itself}
 
 of_new : (node peer size : ℕ) (units : List SentMessage) → AreOf node peer size units → waiting link_it_is_of (Some size) units ≡ []
 of_new node peer size [] are = refl

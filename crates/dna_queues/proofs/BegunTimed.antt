@@ -1,19 +1,10 @@
 -- A link begins, in the machine and in the node with queues.
-use Rattle.std.proofs.Common.{◌≡◌, ℕ, zero, suc, true, false, ◌⊎◌, inl, inr, Option, Some, None, List, [], ◌∷◌, ◌++◌, length}
-use Rattle.std.proofs.Common.{refl, sym, ap, ◌∙◌, arith, length-append}
-use Rattle.std.specs.Prelude.{slice_get}
-use Rattle.two_nodes.proofs.NumberedSteps.{at_pushed}
-use Rattle.dna_links.specs.LookUps.{is_at}
-use Rattle.dna_links.specs.Links.{Carried, begun}
+use Rattle.dna_queues.proofs.Prelude.{◌≡◌, ℕ, zero, suc, true, false, ◌⊎◌, inl, inr, Option, Some, None, List, [], ◌∷◌, ◌++◌, length, refl, sym, ap}
+use Rattle.dna_queues.proofs.Prelude.{◌∙◌, arith, length-append, slice_get, at_pushed, is_at, Carried, begun, Node, waiting, link_it_is_for}
 use Rattle.dna_links.specs.TrueLinks as machine
-use Rattle.dna_queues.specs.Hidden.{Node, waiting, link_it_is_for}
-use Rattle.dna_queues.proofs.Goes.{Link, phase_of}
-use Rattle.dna_queues.proofs.Turns.{Sane}
-use Rattle.dna_queues.proofs.Early.{CanGo, AreEarly}
-use Rattle.dna_queues.proofs.Hide.{hide}
+use Rattle.dna_queues.proofs.{Goes.Link, Goes.phase_of, Turns.Sane, Early.CanGo, Early.AreEarly, Hide.hide, Timed.Awaits, Timed.Timed}
+use Rattle.dna_queues.proofs.{LinkLists.pushed_each}
 use Rattle.dna_queues.proofs.Dues.{none_link, Due, went_can, IsDue, AreDue, AreSane}
-use Rattle.dna_queues.proofs.Timed.{Awaits, Timed}
-use Rattle.dna_queues.proofs.LinkLists.{pushed_each}
 
 there_still : {X : Type 0} (xs : List X) (y x : X) (i : ℕ) → slice_get xs i ≡ Some x → slice_get (xs ++ y ∷ []) i ≡ Some x
 there_still [] y x i at = absurd cc

@@ -1,39 +1,20 @@
 -- The node with queues beside the machine: each link of the machine follows that of the node, and hidden steps change nothing of that.
-use Rattle.std.proofs.Common.{◌≡◌, ℕ, Bool, true, false, ◌&&◌, ◌||◌, ◌==◌, cond, Option, Some, None, List, [], ◌∷◌, ◌++◌, length}
-use Rattle.std.proofs.Common.{Ok, refl, sym, ap, ◌∙◌, subst, arith, eqb-true, append-nil}
-use Rattle.std.specs.Prelude.{slice_get}
-use Rattle.std.proofs.lemmas.Option.{slice_get_within}
-use Rattle.dna_packet.specs.Nsp.{NspValue, DataSegment, LinkService, DataAck, OtherDataAck, ConnectAck, ConnectConfirm}
-use Rattle.dna_packet.specs.Nsp.{DisconnectInitiate, DisconnectConfirm, IsInRange}
-use Rattle.dna_station.specs.declared.link_refusal.LinkRefusal.TheVariants.{WrongNode}
-use Rattle.dna_links.specs.declared.port.Phase.TheVariants.{Running, Confirming}
-use Rattle.dna_links.specs.declared.port.Port.{Port}
-use Rattle.dna_links.specs.declared.queue.Queues.TheVariants.{Without}
-use Rattle.dna_links.specs.declared.port.LinkTest.TheVariants.{TheLink, CallingAt, ActedOn, BegunBy}
-use Rattle.dna_links.specs.PacketAddresses.{goes}
-use Rattle.dna_links.specs.LookUps.{passes, is_in, is_live, is_at, is_calling, is_called}
-use Rattle.dna_links.specs.Links.{LinkTruth}
-use Rattle.dna_links.specs.LinkBook.{are_same}
-use Rattle.dna_links.specs.Sending.{Sent, sent_step}
-use Rattle.dna_links.specs.Arriving.{of_partner, arrived_step}
-use Rattle.dna_links.specs.CutSegments.{IsAnswered}
-use Rattle.dna_links.specs.TrueSegments.{Numbers, takes_segment, takes_acks}
+use Rattle.dna_queues.proofs.Prelude.{◌≡◌, ℕ, Bool, true, false, ◌&&◌, ◌||◌, ◌==◌, cond, Option, Some, None, List, [], ◌∷◌, ◌++◌, length, Ok, refl}
+use Rattle.dna_queues.proofs.Prelude.{sym, ap, ◌∙◌, subst, arith, eqb-true, append-nil, slice_get, slice_get_within, NspValue, DataSegment}
+use Rattle.dna_queues.proofs.Prelude.{LinkService, DataAck, OtherDataAck, ConnectAck, ConnectConfirm, DisconnectInitiate, DisconnectConfirm}
+use Rattle.dna_queues.proofs.Prelude.{IsInRange, WrongNode, Running, Confirming, Port, Without, TheLink, CallingAt, ActedOn, BegunBy, goes, passes}
+use Rattle.dna_queues.proofs.Prelude.{is_in, is_live, is_at, is_calling, is_called, LinkTruth, are_same, Sent, sent_step, of_partner, arrived_step}
+use Rattle.dna_queues.proofs.Prelude.{IsAnswered, Numbers, takes_segment, takes_acks, SentMessage, checked, AreAnswered, LateSegments}
+use Rattle.dna_queues.proofs.Prelude.{late_segments, Links, Node, link_it_is_for, link_it_is_of, waiting, Takes, is_composed, false_from_ne_true}
 use Rattle.dna_links.specs.TrueLinks as machine
-use Rattle.dna_links.specs.Runs.{SentMessage}
-use Rattle.dna_links.proofs.Tables.Outcomes.{checked}
-use Rattle.dna_queues.specs.Records.{AreAnswered}
-use Rattle.dna_queues.specs.Hidden.{LateSegments, late_segments, Links, Node, link_it_is_for, link_it_is_of, waiting, Takes, is_composed}
 use Rattle.dna_queues.proofs.Goes.{Link, Goes, Grows, goes_too}
-use Rattle.dna_queues.proofs.WaitsToGo.{CanSend, can_push}
-use Rattle.dna_queues.proofs.Ahead.{Seen, Ahead}
+use Rattle.dna_queues.proofs.{WaitsToGo.CanSend, WaitsToGo.can_push, Ahead.Seen, Ahead.Ahead, Arrivals.hidden_acts}
 use Rattle.dna_queues.proofs.Acting.{LateLink, lift, confirmed_late, ended_late, run_late, acts_as}
 use Rattle.dna_queues.proofs.Follows.{Follows, act_follows, is_behind}
 use Rattle.dna_queues.proofs.Lists.{takes_first, takes_other, waiting_push}
 use Rattle.dna_queues.proofs.LinkLists.{unique_set, IsUnique, unique_changed, changed_each, there_too, set_each}
-use Rattle.dna_queues.proofs.Arrivals.{hidden_acts}
 use Rattle.dna_queues.proofs.Composing.{Composed, composes, acknowledges, Keeps}
 use Rattle.dna_queues.proofs.Waiting.{AreFor, for_taken, AreOf, of_push, of_same}
-use Rattle.std.proofs.lemmas.Bool.{false_from_ne_true}
 
 pub record Beside (n : Node) (t : machine.Links) : Type 0 where
   pub node : n.links.node ≡ t.node

@@ -1,30 +1,13 @@
 -- A boot: nothing that is composed before waits longer.
-use Rattle.std.proofs.Common.{◌≡◌, ℕ, true, false, Option, Some, None, List, [], ◌∷◌, map, option_map, Ok, refl, sym, ap, ap₂, ◌∙◌, subst}
-use Rattle.std.specs.Prelude.{slice_get}
-use Rattle.std.proofs.lemmas.List.{length-map}
-use Rattle.std.proofs.lemmas.Option.{slice_get-map}
-use Rattle.dna_links.specs.declared.port.Phase.{Phase}
-use Rattle.dna_links.specs.declared.port.Phase.TheVariants.{Ended}
-use Rattle.dna_links.specs.declared.port.Port.{Port}
-use Rattle.dna_links.specs.declared.queue.Queues.TheVariants.{Without, With}
-use Rattle.dna_links.specs.LookUps.{is_at}
-use Rattle.dna_links.specs.Queues.{port_of_waiting, booted_link, booted}
-use Rattle.dna_links.specs.LinkBook.{blank, user_step}
-use Rattle.dna_links.specs.User.{Boot}
-use Rattle.dna_links.specs.TrueSegments.{TrueSegments, true_segments}
+use Rattle.dna_queues.proofs.Prelude.{◌≡◌, ℕ, true, false, Option, Some, None, List, [], ◌∷◌, map, option_map, Ok, refl, sym, ap, ap₂, ◌∙◌, subst}
+use Rattle.dna_queues.proofs.Prelude.{slice_get, length-map, slice_get-map, Phase, Ended, Port, Without, With, is_at, port_of_waiting, booted_link}
+use Rattle.dna_queues.proofs.Prelude.{booted, blank, user_step, Boot, TrueSegments, true_segments, all_map, LinkRecord, OfUser, late_segments, Node}
+use Rattle.dna_queues.proofs.Prelude.{link_it_is_for, waiting, MadeByHidden, Boots, Makes}
 use Rattle.dna_links.specs.TrueLinks as machine
-use Rattle.dna_links.proofs.Runs.Sides.{all_map}
 use Rattle.dna_queues.proofs.Facts.{same_Ok, by_option, drops_still}
-use Rattle.dna_queues.specs.Records.{LinkRecord, OfUser}
-use Rattle.dna_queues.specs.Hidden.{late_segments, Node, link_it_is_for, waiting}
-use Rattle.dna_queues.specs.Made.{MadeByHidden, Boots, Makes}
-use Rattle.dna_queues.proofs.Goes.{Link, at_node}
-use Rattle.dna_queues.proofs.Turns.{Sane}
-use Rattle.dna_queues.proofs.Early.{none_before}
-use Rattle.dna_queues.proofs.Hide.{LateLink, hide}
+use Rattle.dna_queues.proofs.{Goes.Link, Goes.at_node, Turns.Sane, Early.none_before, Hide.LateLink, Hide.hide, Timed.Awaits, Timed.Timed}
+use Rattle.dna_queues.proofs.{SentTimed.Sound}
 use Rattle.dna_queues.proofs.Dues.{Due, Went, went_itself, none_link, IsDue, AreDue, AreSane}
-use Rattle.dna_queues.proofs.Timed.{Awaits, Timed}
-use Rattle.dna_queues.proofs.SentTimed.{Sound}
 
 -- ---- nothing is due
 

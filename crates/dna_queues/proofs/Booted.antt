@@ -1,29 +1,12 @@
 -- A boot: the node's links are over, and what waits is dropped. The machine goes on as one that has just these links.
-use Rattle.std.proofs.Common.{◌≡◌, ℕ, true, inl, inr, Option, Some, None, List, [], ◌∷◌, map, option_map, Ok, refl, sym, ◌∙◌, subst, arith}
-use Rattle.std.specs.Prelude.{slice_get}
-use Rattle.std.proofs.lemmas.List.{length-map}
-use Rattle.std.proofs.lemmas.Option.{same_Some, slice_get-map}
-use Rattle.dna_links.specs.declared.port.Phase.TheVariants.{Ended}
-use Rattle.dna_links.specs.declared.queue.Queues.TheVariants.{Without, With}
-use Rattle.dna_links.specs.LookUps.{is_at}
-use Rattle.dna_links.specs.Queues.{booted_link, booted}
-use Rattle.dna_links.specs.User.{Boot}
-use Rattle.dna_links.specs.CutSegments.{IsAnswered}
-use Rattle.dna_links.specs.TrueSegments.{true_segments}
+use Rattle.dna_queues.proofs.Prelude.{◌≡◌, ℕ, true, inl, inr, Option, Some, None, List, [], ◌∷◌, map, option_map, Ok, refl, sym, ◌∙◌, subst, arith}
+use Rattle.dna_queues.proofs.Prelude.{slice_get, length-map, same_Some, slice_get-map, Ended, Without, With, is_at, booted_link, booted, Boot}
+use Rattle.dna_queues.proofs.Prelude.{IsAnswered, true_segments, all_map, LinkRecord, OfUser, AreAnswered, AreNear, next_links, MadeByMachine}
+use Rattle.dna_queues.proofs.Prelude.{late_segments, Node}
 use Rattle.dna_links.specs.TrueLinks as machine
-use Rattle.dna_links.proofs.Runs.Sides.{all_map}
-use Rattle.dna_queues.specs.Records.{LinkRecord, OfUser, AreAnswered, AreNear, next_links, MadeByMachine}
-use Rattle.dna_queues.specs.Hidden.{late_segments, Node}
-use Rattle.dna_queues.proofs.Facts.{drops_still}
-use Rattle.dna_queues.proofs.Pieces.{below_itself}
-use Rattle.dna_queues.proofs.Goes.{Link, Grows}
-use Rattle.dna_queues.proofs.WaitsToGo.{grows_itself}
-use Rattle.dna_queues.proofs.Acting.{LateLink, lift}
-use Rattle.dna_queues.proofs.Follows.{Follows}
-use Rattle.dna_queues.proofs.Beside.{Beside, can_end}
+use Rattle.dna_queues.proofs.{Facts.drops_still, Pieces.below_itself, Goes.Link, Goes.Grows, WaitsToGo.grows_itself, Acting.LateLink, Acting.lift}
+use Rattle.dna_queues.proofs.{Follows.Follows, Beside.Beside, Beside.can_end, GoneOn.made_alike, GoneOn.near_alike, LinkLists.there_too}
 use Rattle.dna_queues.proofs.Gone.{IsGone, AreSameOrGone, Alike}
-use Rattle.dna_queues.proofs.GoneOn.{made_alike, near_alike}
-use Rattle.dna_queues.proofs.LinkLists.{there_too}
 
 abbrev pub booted_node : Node → Node
 booted_node n = record { links = booted late_segments Without n.links; kept = []; composed = [] }
@@ -90,7 +73,12 @@ module _ (n : Node) (t : machine.Links) (b : Beside n t) (answered : AreAnswered
     where
       x_gone : (i : ℕ) (x : Link) → slice_get (map (booted_link true_segments With) t.links) i ≡ Some x → IsGone x
       x_gone = all_map (λ (i : ℕ) (x : Link). IsGone x) (booted_link true_segments With) t.links
-          (λ i l at. record { phase = refl; own = refl; waits = refl; answered = subst IsAnswered (sym (drops_still l.port.opened l.segments)) (answered i l at) })
+          (λ i l at. record {
+            phase = refl;
+            own = refl;
+            waits = refl;
+            answered = subst IsAnswered (sym (drops_still l.port.opened l.segments)) (answered i l at);
+          })
 
       y_gone : (i : ℕ) (y : Link) → slice_get (map (λ (h : LateLink). lift (over h)) n.links.links) i ≡ Some y → IsGone y
       y_gone = all_map (λ (i : ℕ) (y : Link). IsGone y) (λ (h : LateLink). lift (over h)) n.links.links

@@ -1,45 +1,23 @@
 -- One link becomes another in both, as where a call is answered.
-use Rattle.std.proofs.Common.{◌≡◌, ℕ, Bool, true, false, ◌&&◌, cond, Option, Some, None, List, [], ◌∷◌, length, Result, Ok, Err}
-use Rattle.std.proofs.Common.{refl, sym, ap, ◌∙◌, subst, ◌||◌, eqb-true}
-use Rattle.std.specs.Prelude.{slice_get}
-use Rattle.std.proofs.lemmas.Bool.{and_parts, false_from_ne_true}
-use Rattle.dna_packet.specs.Nsp.{NspValue, DataSegment, LinkService, DataAck, OtherDataAck, ConnectConfirm, DisconnectInitiate, DisconnectConfirm}
-use Rattle.dna_station.specs.declared.link_refusal.LinkRefusal.{LinkRefusal}
-use Rattle.dna_station.specs.declared.link_refusal.LinkRefusal.TheVariants.{NoLink, AddressInUse}
-use Rattle.dna_links.specs.declared.port.Phase.{Phase}
-use Rattle.dna_links.specs.declared.port.Phase.TheVariants.{Called, Confirming, Running, Disconnecting}
-use Rattle.dna_links.specs.declared.port.Port.{Port}
-use Rattle.dna_links.specs.declared.port.LinkTest.TheVariants.{LiveAt, CalledBy, CallingAt, TheLink, ActedOn}
-use Rattle.dna_links.specs.declared.queue.LinkQueue.{LinkQueue}
-use Rattle.dna_links.specs.declared.queue.Queues.TheVariants.{Without, With}
-use Rattle.dna_links.specs.LookUps.{passes, is_in, is_live, is_at, is_called, is_calling}
-use Rattle.dna_links.specs.Links.{LinkTruth, number_of, with_link, changed}
-use Rattle.dna_links.specs.Queues.{port_of_waiting, freed, goes_on, reached, is_silent, is_over}
-use Rattle.dna_links.specs.inner.Forms.{answered}
-use Rattle.dna_links.specs.User.{LinkEventValue}
-use Rattle.dna_links.specs.CutSegments.{IsAnswered}
-use Rattle.dna_links.specs.TrueSegments.{Numbers, true_segments}
+use Rattle.dna_queues.proofs.Prelude.{◌≡◌, ℕ, Bool, true, false, ◌&&◌, cond, Option, Some, None, List, [], ◌∷◌, length, Result, Ok, Err, refl, sym}
+use Rattle.dna_queues.proofs.Prelude.{ap, ◌∙◌, subst, ◌||◌, eqb-true, slice_get, and_parts, false_from_ne_true, NspValue, DataSegment, LinkService}
+use Rattle.dna_queues.proofs.Prelude.{DataAck, OtherDataAck, ConnectConfirm, DisconnectInitiate, DisconnectConfirm, LinkRefusal, NoLink}
+use Rattle.dna_queues.proofs.Prelude.{AddressInUse, Phase, Called, Confirming, Running, Disconnecting, Port, LiveAt, CalledBy, CallingAt, TheLink}
+use Rattle.dna_queues.proofs.Prelude.{ActedOn, LinkQueue, Without, With, passes, is_in, is_live, is_at, is_called, is_calling, LinkTruth, number_of}
+use Rattle.dna_queues.proofs.Prelude.{with_link, changed, port_of_waiting, freed, goes_on, reached, is_silent, is_over, answered, LinkEventValue}
+use Rattle.dna_queues.proofs.Prelude.{IsAnswered, Numbers, true_segments, SentMessage, IsFound, AreAnswered, next_links, late_segments, Links, Node}
+use Rattle.dna_queues.proofs.Prelude.{link_it_is_for, link_it_is_of, waiting, IsFree, same_Some}
 use Rattle.dna_links.specs.TrueLinks as machine
-use Rattle.dna_links.specs.Runs.{SentMessage}
-use Rattle.dna_links.proofs.Tables.Outcomes.{IsFound}
-use Rattle.dna_queues.proofs.Facts.{not_both, by_test}
-use Rattle.dna_queues.specs.Records.{AreAnswered, next_links}
+use Rattle.dna_queues.proofs.{Facts.not_both, Facts.by_test, Came.live_phase, Follows.Follows, Lists.waiting_none, Waiting.of_same, Beside.Beside}
+use Rattle.dna_queues.proofs.{Beside.follows_as}
 use Rattle.dna_queues.specs.Records as records
-use Rattle.dna_queues.specs.Hidden.{late_segments, Links, Node, link_it_is_for, link_it_is_of, waiting}
-use Rattle.dna_queues.specs.Made.{IsFree}
 use Rattle.dna_queues.proofs.Goes.{Link, phase_of, Grows}
 use Rattle.dna_queues.proofs.WaitsToGo.{can_more, can_grow, grown_itself}
 use Rattle.dna_queues.proofs.Ahead.{Seen, Ahead, acted, acted_as, confirmed_if, ended_if, ran_if, taken_if, is_open, none_at}
-use Rattle.dna_queues.proofs.Came.{live_phase}
 use Rattle.dna_queues.proofs.Acting.{LateLink, lift, level, seen_as}
-use Rattle.dna_queues.proofs.Follows.{Follows}
-use Rattle.dna_queues.proofs.Lists.{waiting_none}
 use Rattle.dna_queues.proofs.LinkLists.{IsSet, set_changed, IsUnique, at_none, at_found, number_same, there_too, set_each, unique_free}
-use Rattle.dna_queues.proofs.Waiting.{of_same}
-use Rattle.dna_queues.proofs.Beside.{Beside, follows_as}
 use Rattle.dna_queues.proofs.SentOn.{Follow, grows_on, phase_same}
 use Rattle.dna_queues.proofs.Given.{meets_now, live_same, free_beside, no_owner, left_h, left_l, free_node}
-use Rattle.std.proofs.lemmas.Option.{same_Some}
 
 -- ---- one link becomes another in both
 

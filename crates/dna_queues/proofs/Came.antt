@@ -1,21 +1,12 @@
 -- A link of the machine, and what comes for it, on which it acts at once.
-use Rattle.std.proofs.Common.{◌≡◌, ℕ, ◌≤◌, Bool, true, false, ◌&&◌, ◌||◌, nat_lt, nat_le, cond, Option, Some, None, List, [], ◌∷◌, fold, refl}
-use Rattle.std.proofs.Common.{sym, ap, ◌∙◌, subst, arith}
-use Rattle.dna_packet.specs.Nsp.{NspValue, DataSegment, LinkService, DataAck, OtherDataAck, ConnectConfirm, DisconnectInitiate, DisconnectConfirm}
-use Rattle.dna_links.specs.declared.port.Phase.{Phase}
-use Rattle.dna_links.specs.declared.port.Phase.TheVariants.{Running, Ended}
-use Rattle.dna_links.specs.declared.port.LinkTest.TheVariants.{TheLink, CallingAt, ActedOn}
-use Rattle.dna_links.specs.LookUps.{passes, is_in, is_live, is_calling}
-use Rattle.dna_links.specs.Links.{LinkTruth}
-use Rattle.dna_links.specs.Queues.{port_of_waiting}
-use Rattle.dna_links.specs.CutSegments.{IsAnswered, AcksAreNear}
-use Rattle.dna_links.specs.TrueSegments.{TrueSegments, Numbers, takes_segment, takes_acks, acknowledged_through, highest_given}
-use Rattle.dna_links.specs.Runs.{SentMessage}
-use Rattle.dna_links.proofs.Tables.Words.{AreAtMost}
-use Rattle.dna_queues.proofs.Facts.{not_both}
+use Rattle.dna_queues.proofs.Prelude.{◌≡◌, ℕ, ◌≤◌, Bool, true, false, ◌&&◌, ◌||◌, nat_lt, nat_le, cond, Option, Some, None, List, [], ◌∷◌, fold}
+use Rattle.dna_queues.proofs.Prelude.{refl, sym, ap, ◌∙◌, subst, arith, NspValue, DataSegment, LinkService, DataAck, OtherDataAck, ConnectConfirm}
+use Rattle.dna_queues.proofs.Prelude.{DisconnectInitiate, DisconnectConfirm, Phase, Running, Ended, TheLink, CallingAt, ActedOn, passes, is_in}
+use Rattle.dna_queues.proofs.Prelude.{is_live, is_calling, LinkTruth, port_of_waiting, IsAnswered, AcksAreNear, TrueSegments, Numbers}
+use Rattle.dna_queues.proofs.Prelude.{takes_segment, takes_acks, acknowledged_through, highest_given, SentMessage, AreAtMost}
+use Rattle.dna_queues.proofs.{Facts.not_both, WaitsToGo.grows_itself}
 use Rattle.dna_queues.proofs.Goes.{Link, phase_of, Grows}
 use Rattle.dna_queues.proofs.Ahead.{Seen, acted, takes_numbers, AreTaken, Meets}
-use Rattle.dna_queues.proofs.WaitsToGo.{grows_itself}
 
 -- ---- acknowledgements
 

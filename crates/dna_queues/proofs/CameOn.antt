@@ -1,28 +1,15 @@
 -- By what comes for it a link of the machine comes further, and is met as before.
-use Rattle.std.proofs.Common.{◌≡◌, ℕ, ◌-◌, ◌≤◌, Bool, true, false, ◌||◌, cond, Option, Some, None, List, [], ◌∷◌, ◌++◌, fold, refl}
-use Rattle.std.proofs.Common.{sym, ap, ◌∙◌, subst, arith, inl, inr}
-use Rattle.std.proofs.lemmas.Bool.{and_parts, cond_both, or_cases}
-use Rattle.dna_packet.specs.Nsp.{NspValue, DataSegment, LinkService, DataAck, OtherDataAck, ConnectConfirm, DisconnectInitiate, DisconnectConfirm}
-use Rattle.dna_links.specs.declared.port.Phase.{Phase}
-use Rattle.dna_links.specs.declared.port.Phase.TheVariants.{Calling, Confirming, Running, Disconnecting, Ended}
-use Rattle.dna_links.specs.declared.port.Port.{Port}
-use Rattle.dna_links.specs.declared.port.LinkTest.TheVariants.{TheLink, CallingAt, ActedOn}
-use Rattle.dna_links.specs.LookUps.{passes, is_in, is_live, is_at, is_connected, has_both}
-use Rattle.dna_links.specs.Segmentation.{Piece, piece_of, hold, in_order}
-use Rattle.dna_links.specs.Links.{LinkTruth}
-use Rattle.dna_links.specs.Queues.{port_of_waiting}
-use Rattle.dna_links.specs.CutSegments.{IsAnswered}
-use Rattle.dna_links.specs.TrueSegments.{TrueSegments, Numbers, takes_segment, takes_acks, acknowledged_through}
-use Rattle.dna_links.specs.Runs.{SentMessage}
-use Rattle.dna_links.proofs.Tables.Words.{AreAtMost}
-use Rattle.dna_queues.proofs.Facts.{not_both}
+use Rattle.dna_queues.proofs.Prelude.{◌≡◌, ℕ, ◌-◌, ◌≤◌, Bool, true, false, ◌||◌, cond, Option, Some, None, List, [], ◌∷◌, ◌++◌, fold, refl, sym, ap}
+use Rattle.dna_queues.proofs.Prelude.{◌∙◌, subst, arith, inl, inr, and_parts, cond_both, or_cases, NspValue, DataSegment, LinkService, DataAck}
+use Rattle.dna_queues.proofs.Prelude.{OtherDataAck, ConnectConfirm, DisconnectInitiate, DisconnectConfirm, Phase, Calling, Confirming, Running}
+use Rattle.dna_queues.proofs.Prelude.{Disconnecting, Ended, Port, TheLink, CallingAt, ActedOn, passes, is_in, is_live, is_at, is_connected}
+use Rattle.dna_queues.proofs.Prelude.{has_both, Piece, piece_of, hold, in_order, LinkTruth, port_of_waiting, IsAnswered, TrueSegments, Numbers}
+use Rattle.dna_queues.proofs.Prelude.{takes_segment, takes_acks, acknowledged_through, SentMessage, AreAtMost}
+use Rattle.dna_queues.proofs.{Facts.not_both, Words.Grown, Goes.Link, Goes.phase_of, WaitsToGo.grown_itself}
 use Rattle.dna_queues.proofs.Pieces.{Below, below_itself, below_hold, below_order}
-use Rattle.dna_queues.proofs.Words.{Grown}
-use Rattle.dna_queues.proofs.Goes.{Link, phase_of}
 use Rattle.dna_queues.proofs.Ahead.{Seen, confirmed_if, ended_if, acted, takes_numbers, Meets, Ahead, is_open, at_most_more, none_at}
 use Rattle.dna_queues.proofs.Came.{acks_taken, Fits, live_phase, confirmed_link, ended_link, run_link}
 use Rattle.dna_queues.proofs.Came.{came_as, came, AreNearHere, ComesOn, comes_still}
-use Rattle.dna_queues.proofs.WaitsToGo.{grown_itself}
 
 module _ (l : Link) (fits : Fits l) where
   -- it ends

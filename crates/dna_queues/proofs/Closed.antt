@@ -1,26 +1,16 @@
 -- A link is closed by its user while packets wait for it: the machine, which has acted on them, closes it too.
-use Rattle.std.proofs.Common.{◌≡◌, ℕ, ◌≤◌, Bool, true, false, cond, Option, Some, None, List, refl, sym, ap, ap₂, ◌∙◌, subst}
-use Rattle.dna_links.specs.declared.port.Phase.{Phase}
-use Rattle.dna_links.specs.declared.port.Phase.TheVariants.{Calling, Called, Confirming, Running, Disconnecting}
-use Rattle.dna_links.specs.declared.port.Port.{Port}
-use Rattle.dna_links.specs.LookUps.{is_in, is_live, is_at, is_calling, is_connected}
-use Rattle.dna_links.specs.Links.{in_phase}
-use Rattle.dna_links.specs.Queues.{port_of_waiting, goes_on, keeps_numbers, is_silent, is_over}
-use Rattle.dna_links.specs.CutSegments.{IsAnswered}
-use Rattle.dna_links.specs.TrueSegments.{TrueSegments, true_segments}
-use Rattle.dna_links.specs.Runs.{SentMessage}
+use Rattle.dna_queues.proofs.Prelude.{◌≡◌, ℕ, ◌≤◌, Bool, true, false, cond, Option, Some, None, List, refl, sym, ap, ap₂, ◌∙◌, subst, Phase}
+use Rattle.dna_queues.proofs.Prelude.{Calling, Called, Confirming, Running, Disconnecting, Port, is_in, is_live, is_at, is_calling, is_connected}
+use Rattle.dna_queues.proofs.Prelude.{in_phase, port_of_waiting, goes_on, keeps_numbers, is_silent, is_over, IsAnswered, TrueSegments}
+use Rattle.dna_queues.proofs.Prelude.{true_segments, SentMessage, cond_both}
 use Rattle.dna_queues.proofs.Facts.{lets_still, not_both, no_case, no_other}
 use Rattle.dna_queues.proofs.Pieces.{Below, below_itself, below_on}
-use Rattle.dna_queues.proofs.Words.{Grown}
+use Rattle.dna_queues.proofs.{Words.Grown, Came.Fits, Follows.Follows, SentOn.grows_on, SentOn.phase_same}
 use Rattle.dna_queues.proofs.Goes.{Link, phase_of, Grows}
 use Rattle.dna_queues.proofs.WaitsToGo.{can_more, can_grow, grown_itself}
 use Rattle.dna_queues.proofs.Ahead.{Seen, Meets, is_open}
-use Rattle.dna_queues.proofs.Came.{Fits}
 use Rattle.dna_queues.proofs.Acting.{LateLink, lift, seen_as}
-use Rattle.dna_queues.proofs.Follows.{Follows}
-use Rattle.dna_queues.proofs.SentOn.{grows_on, phase_same}
 use Rattle.dna_queues.proofs.Closing.{closing, over, closed, connected_is, ahead_closing}
-use Rattle.std.proofs.lemmas.Bool.{cond_both}
 
 -- ---- the link of the machine
 

@@ -1,42 +1,20 @@
 -- A link is closed by its user: what it says until then in the phase that is over is composed before.
-use Rattle.std.proofs.Common.{◌≡◌, ℕ, Bool, true, false, ◌&&◌, ◌||◌, cond, Option, Some, None, List, [], ◌∷◌, Ok, Err, refl, sym, ap, ap₂, ◌∙◌, subst}
-use Rattle.std.proofs.Common.{inl, inr}
-use Rattle.std.specs.Prelude.{slice_get}
-use Rattle.std.proofs.lemmas.Bool.{and_parts, or_cases}
-use Rattle.std.proofs.lemmas.Option.{same_Some}
-use Rattle.dna_packet.specs.Nsp.{NspValue, NoOperation, DisconnectInitiate, DisconnectConfirm}
-use Rattle.dna_station.specs.declared.link_refusal.LinkRefusal.TheVariants.{NoLink, LinkState}
-use Rattle.dna_links.specs.declared.port.Phase.{Phase}
-use Rattle.dna_links.specs.declared.port.Phase.TheVariants.{Calling, Confirming, Running, Disconnecting, Ended}
-use Rattle.dna_links.specs.declared.port.Port.{Port}
-use Rattle.dna_links.specs.declared.port.LinkTest.TheVariants.{LiveAt, TheLink, CallingAt}
-use Rattle.dna_links.specs.declared.queue.Queues.TheVariants.{With}
-use Rattle.dna_links.specs.LookUps.{passes, is_in, is_live, is_called, is_at, is_connected, has_both}
-use Rattle.dna_links.specs.Links.{changed, in_phase}
-use Rattle.dna_links.specs.Queues.{in_use, port_of_waiting}
-use Rattle.dna_links.specs.LinkBook.{user_step}
-use Rattle.dna_links.specs.User.{Close}
-use Rattle.dna_links.specs.TrueSegments.{TrueSegments, true_segments}
+use Rattle.dna_queues.proofs.Prelude.{◌≡◌, ℕ, Bool, true, false, ◌&&◌, ◌||◌, cond, Option, Some, None, List, [], ◌∷◌, Ok, Err, refl, sym, ap, ap₂}
+use Rattle.dna_queues.proofs.Prelude.{◌∙◌, subst, inl, inr, slice_get, and_parts, or_cases, same_Some, NspValue, NoOperation, DisconnectInitiate}
+use Rattle.dna_queues.proofs.Prelude.{DisconnectConfirm, NoLink, Phase, Calling, Confirming, Running, Disconnecting, Ended, Port, LiveAt}
+use Rattle.dna_queues.proofs.Prelude.{TheLink, CallingAt, With, passes, is_in, is_live, is_called, is_at, is_connected, has_both, changed, in_phase}
+use Rattle.dna_queues.proofs.Prelude.{in_use, port_of_waiting, user_step, Close, TrueSegments, true_segments, SentMessage, checked, LinkRecord}
+use Rattle.dna_queues.proofs.Prelude.{OfUser, Node, over, UserDoes}
 use Rattle.dna_links.specs.TrueLinks as machine
-use Rattle.dna_links.specs.Runs.{SentMessage}
-use Rattle.dna_links.proofs.Tables.Outcomes.{checked}
 use Rattle.dna_queues.proofs.Facts.{dead_phase, passed_check, same_Ok, not_both}
-use Rattle.dna_queues.specs.Records.{LinkRecord, OfUser}
-use Rattle.dna_queues.specs.Hidden.{Node, over}
-use Rattle.dna_queues.specs.Made.{UserDoes}
 use Rattle.dna_queues.proofs.Goes.{Link, phase_of, test_of, use_port, at_node, node_port, at_node_some, at_node_same, uncalled_use}
-use Rattle.dna_queues.proofs.Closed.{closed_link, closes_as}
+use Rattle.dna_queues.proofs.{Closed.closed_link, Closed.closes_as, Sending.live_owns, Delivered.given_user, Moved.moved, Moved.gone_before}
+use Rattle.dna_queues.proofs.{Timed.EndsFirst, Timed.is_end, SentTimed.Sound, UserTimed.Changes, UserTimed.one_sound}
 use Rattle.dna_queues.proofs.LinkLists.{IsUnique, IsSet, set_changed, at_found}
-use Rattle.dna_queues.proofs.Sending.{live_owns}
-use Rattle.dna_queues.proofs.Delivered.{given_user}
 use Rattle.dna_queues.proofs.Turns.{Began, CanWait, live_use, live_waits}
-use Rattle.dna_queues.proofs.Moved.{moved, gone_before}
 use Rattle.dna_queues.proofs.Hide.{LateLink, hide, found}
 use Rattle.dna_queues.proofs.MachineSends.{IsUsed, used, live_at}
 use Rattle.dna_queues.proofs.Dues.{Went, went_use, went_node, AreSane}
-use Rattle.dna_queues.proofs.Timed.{EndsFirst, is_end}
-use Rattle.dna_queues.proofs.SentTimed.{Sound}
-use Rattle.dna_queues.proofs.UserTimed.{Changes, one_sound}
 
 -- ---- ports in another phase
 

@@ -1,15 +1,8 @@
 -- What comes for a link that its user has closed before it acted on what waits.
-use Rattle.std.proofs.Common.{◌≡◌, ℕ, ◌-◌, Bool, true, false, ◌&&◌, ◌||◌, cond, Option, List, [], ◌∷◌, refl, sym, ap₂, subst}
-use Rattle.dna_packet.specs.Nsp.{NspValue, DataSegment, LinkService, DataAck, OtherDataAck, ConnectConfirm, DisconnectInitiate, DisconnectConfirm}
-use Rattle.dna_links.specs.declared.port.Phase.{Phase}
-use Rattle.dna_links.specs.declared.port.Phase.TheVariants.{Calling, Confirming, Running, Disconnecting, Ended}
-use Rattle.dna_links.specs.declared.port.Port.{Port}
-use Rattle.dna_links.specs.declared.port.LinkTest.TheVariants.{TheLink, CallingAt, ActedOn}
-use Rattle.dna_links.specs.LookUps.{passes, is_in, is_live, is_at, is_connected, has_both}
-use Rattle.dna_links.specs.Segmentation.{Piece, piece_of, hold}
-use Rattle.dna_links.specs.Links.{LinkTruth}
-use Rattle.dna_links.specs.TrueSegments.{Numbers}
-use Rattle.dna_links.specs.Runs.{SentMessage}
+use Rattle.dna_queues.proofs.Prelude.{◌≡◌, ℕ, ◌-◌, Bool, true, false, ◌&&◌, ◌||◌, cond, Option, List, [], ◌∷◌, refl, sym, ap₂, subst, NspValue}
+use Rattle.dna_queues.proofs.Prelude.{DataSegment, LinkService, DataAck, OtherDataAck, ConnectConfirm, DisconnectInitiate, DisconnectConfirm, Phase}
+use Rattle.dna_queues.proofs.Prelude.{Calling, Confirming, Running, Disconnecting, Ended, Port, TheLink, CallingAt, ActedOn, passes, is_in, is_live}
+use Rattle.dna_queues.proofs.Prelude.{is_at, is_connected, has_both, Piece, piece_of, hold, LinkTruth, Numbers, SentMessage}
 use Rattle.dna_queues.proofs.Pieces.{Below, below_on, below_hold}
 use Rattle.dna_queues.proofs.Goes.{Link}
 use Rattle.dna_queues.proofs.Ahead.{Seen, Meets, Ahead, acted_as, confirmed_if, ended_if, takes_numbers}

@@ -1,18 +1,12 @@
 -- Whatever records a node with queues makes by hidden steps the machine makes too.
-use Rattle.std.proofs.Common.{◌≡◌, ℕ, ◌⊎◌, inl, inr, List, [], ◌∷◌, Ok, refl, sym, subst}
-use Rattle.dna_links.specs.User.{Boot}
+use Rattle.dna_queues.proofs.Prelude.{◌≡◌, ℕ, ◌⊎◌, inl, inr, List, [], ◌∷◌, Ok, refl, sym, subst, Boot, LinkRecord, OfUser, AreAnswered, AreNear}
+use Rattle.dna_queues.proofs.Prelude.{IsNear, IsNoAbort, NoneGivesUp, next_links, MadeByMachine, Node, HiddenStep, Acts, Composes, Acknowledges}
+use Rattle.dna_queues.proofs.Prelude.{new_node, MakesStep, UserDoes, Boots, SendsComposed, SendsConfirm, SendsNothing, KeepsForLink, KeepsAtOnce}
+use Rattle.dna_queues.proofs.Prelude.{PassesBy, MadeByHidden, NoMore, Hides, Makes}
 use Rattle.dna_links.specs.TrueLinks as machine
-use Rattle.dna_queues.specs.Records.{LinkRecord, OfUser, AreAnswered, AreNear, IsNear, IsNoAbort, NoneGivesUp, next_links, MadeByMachine}
-use Rattle.dna_queues.specs.Hidden.{Node, HiddenStep, Acts, Composes, Acknowledges}
-use Rattle.dna_queues.specs.Made.{new_node, MakesStep, UserDoes, Boots, SendsComposed, SendsConfirm, SendsNothing, KeepsForLink, KeepsAtOnce}
-use Rattle.dna_queues.specs.Made.{PassesBy, MadeByHidden, NoMore, Hides, Makes}
 use Rattle.dna_queues.proofs.Beside.{Beside, acts_beside, composes_beside, acknowledges_beside}
-use Rattle.dna_queues.proofs.SentOn.{Follow, sends_beside}
-use Rattle.dna_queues.proofs.Kept.{keeps_beside}
-use Rattle.dna_queues.proofs.Begun.{at_once_beside}
-use Rattle.dna_queues.proofs.Users.{user_beside}
-use Rattle.dna_queues.proofs.Ends.{confirms_beside, nothing_beside}
-use Rattle.dna_queues.proofs.Booted.{booted_node, boots_on}
+use Rattle.dna_queues.proofs.{SentOn.Follow, SentOn.sends_beside, Kept.keeps_beside, Begun.at_once_beside, Users.user_beside, Ends.confirms_beside}
+use Rattle.dna_queues.proofs.{Ends.nothing_beside, Booted.booted_node, Booted.boots_on}
 
 answered_now : (t : machine.Links) (later : List LinkRecord) → AreNear t later → AreAnswered t
 answered_now t [] near = near

@@ -1,33 +1,13 @@
 -- A message that the node with queues composes: its link, as one of the machine for which nothing waits, may send it.
-use Rattle.std.proofs.Common.{◌≡◌, ℕ, true, not, ◌&&◌, Option, Some, None, List, Result, Ok, Err, refl, sym, ap, ◌∙◌, subst}
-use Rattle.std.specs.Prelude.{slice_get}
-use Rattle.dna_packet.specs.declared.ack_word.AckWord.{AckWord}
-use Rattle.dna_packet.specs.Nsp.{SegmentValue, NspValue, DataSegment, LinkService, DataAck, OtherDataAck, ConnectAck, ConnectInitiate}
-use Rattle.dna_packet.specs.Nsp.{ConnectConfirm, DisconnectInitiate, IsInRange}
-use Rattle.dna_station.specs.declared.link_refusal.LinkRefusal.{LinkRefusal}
-use Rattle.dna_station.specs.declared.link_refusal.LinkRefusal.TheVariants.{NoLink, LinkState}
-use Rattle.dna_links.specs.declared.port.Phase.{Phase}
-use Rattle.dna_links.specs.declared.port.Phase.TheVariants.{Calling, Confirming, Running, Disconnecting}
-use Rattle.dna_links.specs.declared.port.LinkTest.{LinkTest}
-use Rattle.dna_links.specs.declared.port.LinkTest.TheVariants.{TheLink, OpenedAt, BegunBy}
-use Rattle.dna_links.specs.declared.queue.Queues.TheVariants.{Without}
-use Rattle.dna_links.specs.declared.queue.Said.TheVariants.{OfRun, Disconnect}
-use Rattle.dna_links.specs.LookUps.{passes, is_in}
-use Rattle.dna_links.specs.Segmentation.{Piece}
-use Rattle.dna_links.specs.SegmentBook.{Sending}
-use Rattle.dna_links.specs.Links.{LinkTruth, check, with_link, changed, with_segments}
-use Rattle.dna_links.specs.Queues.{is_silent, is_over}
-use Rattle.dna_links.specs.inner.Forms.{truth_of, unchanged}
-use Rattle.dna_links.specs.Sending.{Sent, message_sent}
-use Rattle.dna_links.specs.CutSegments.{IsAnswered}
-use Rattle.dna_links.specs.TrueSegments.{Numbers, sends_late, sends_acks}
-use Rattle.dna_links.proofs.Tables.Outcomes.{looked, checked}
-use Rattle.dna_queues.proofs.Facts.{same_Ok, was_ok_first}
-use Rattle.dna_queues.specs.Hidden.{LateSegments, late_segments, late_sent, acks_sent, Links, is_composed}
-use Rattle.dna_queues.proofs.Words.{Carries}
-use Rattle.dna_queues.proofs.Segments.{late_grows, acks_grow}
-use Rattle.dna_queues.proofs.Goes.{Goes, said_as}
-use Rattle.dna_queues.proofs.WaitsToGo.{grown_itself}
+use Rattle.dna_queues.proofs.Prelude.{◌≡◌, ℕ, true, not, ◌&&◌, Option, Some, None, List, Result, Ok, Err, refl, sym, ap, ◌∙◌, subst, slice_get}
+use Rattle.dna_queues.proofs.Prelude.{AckWord, SegmentValue, NspValue, DataSegment, LinkService, DataAck, OtherDataAck, ConnectAck, ConnectInitiate}
+use Rattle.dna_queues.proofs.Prelude.{ConnectConfirm, DisconnectInitiate, IsInRange, LinkRefusal, NoLink, LinkState, Phase, Calling, Confirming}
+use Rattle.dna_queues.proofs.Prelude.{Running, Disconnecting, LinkTest, TheLink, OpenedAt, BegunBy, Without, OfRun, Disconnect, passes, is_in}
+use Rattle.dna_queues.proofs.Prelude.{Piece, Sending, LinkTruth, check, with_link, changed, with_segments, is_silent, is_over, truth_of, unchanged}
+use Rattle.dna_queues.proofs.Prelude.{Sent, message_sent, IsAnswered, Numbers, sends_late, sends_acks, looked, checked, LateSegments, late_segments}
+use Rattle.dna_queues.proofs.Prelude.{late_sent, acks_sent, Links, is_composed}
+use Rattle.dna_queues.proofs.{Facts.same_Ok, Facts.was_ok_first, Words.Carries, Segments.late_grows, Segments.acks_grow, Goes.Goes, Goes.said_as}
+use Rattle.dna_queues.proofs.{WaitsToGo.grown_itself}
 use Rattle.dna_queues.proofs.Acting.{LateLink, lift, level, seen_as}
 use Rattle.dna_queues.proofs.LinkLists.{still_set, IsSet, set_changed}
 

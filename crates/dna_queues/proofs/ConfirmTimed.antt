@@ -1,38 +1,20 @@
 -- A DC with SRCADDR 0 refuses a call, which then is over; and any DC, by what it settles.
-use Rattle.std.proofs.Common.{◌≡◌, ℕ, Bool, true, false, ◌&&◌, ◌==◌, cond, Some, None, List, [], ◌∷◌, Result, Ok, Err}
-use Rattle.std.proofs.Common.{refl, sym, ap, ap₂, ◌∙◌, subst, eqb-true}
-use Rattle.std.proofs.lemmas.Option.{same_Some}
-use Rattle.dna_packet.specs.Nsp.{NoOperation, DisconnectConfirm}
-use Rattle.dna_station.specs.declared.link_refusal.LinkRefusal.{LinkRefusal}
-use Rattle.dna_station.specs.declared.link_refusal.LinkRefusal.TheVariants.{WrongNode, LinkState}
-use Rattle.dna_links.specs.declared.port.Phase.TheVariants.{Ended}
-use Rattle.dna_links.specs.declared.port.Port.{Port}
-use Rattle.dna_links.specs.declared.port.LinkTest.TheVariants.{HasAddress, TheLink, CalledBy}
-use Rattle.dna_links.specs.declared.queue.Queues.TheVariants.{Without, With}
-use Rattle.dna_links.specs.LookUps.{is_live, is_called, is_at}
-use Rattle.dna_links.specs.Links.{Carried, number_of, with_link, changed}
-use Rattle.dna_links.specs.Queues.{settled, drops, ended}
-use Rattle.dna_links.specs.inner.Forms.{of_no_link, truth_of, ending}
-use Rattle.dna_links.specs.Sending.{Sent, message_sent}
-use Rattle.dna_links.specs.TrueSegments.{TrueSegments, Numbers, sends_other, true_segments}
+use Rattle.dna_queues.proofs.Prelude.{◌≡◌, ℕ, Bool, true, false, ◌&&◌, ◌==◌, cond, Some, None, List, [], ◌∷◌, Result, Ok, Err, refl, sym, ap, ap₂}
+use Rattle.dna_queues.proofs.Prelude.{◌∙◌, subst, eqb-true, same_Some, NoOperation, DisconnectConfirm, LinkRefusal, WrongNode, LinkState, Ended}
+use Rattle.dna_queues.proofs.Prelude.{Port, HasAddress, TheLink, CalledBy, Without, With, is_live, is_called, is_at, Carried, number_of, with_link}
+use Rattle.dna_queues.proofs.Prelude.{changed, settled, drops, ended, of_no_link, truth_of, ending, Sent, message_sent, TrueSegments, Numbers}
+use Rattle.dna_queues.proofs.Prelude.{sends_other, true_segments, SentMessage, IsFound, looked, LinkRecord, Sends, late_segments, Node, waiting}
+use Rattle.dna_queues.proofs.Prelude.{link_it_is_for, link_it_is_of, IsFree, EndsCall, SendsConfirm, SendsNothing, MadeByHidden, Makes}
 use Rattle.dna_links.specs.TrueLinks as machine
-use Rattle.dna_links.specs.Runs.{SentMessage}
-use Rattle.dna_links.proofs.Tables.Outcomes.{IsFound, looked}
 use Rattle.dna_queues.proofs.Facts.{not_both, passed_check, same_links, by_option, refused_link, refused_is}
-use Rattle.dna_queues.specs.Records.{LinkRecord, Sends}
-use Rattle.dna_queues.specs.Hidden.{late_segments, Node, waiting, link_it_is_for, link_it_is_of}
-use Rattle.dna_queues.specs.Made.{IsFree, EndsCall, SendsConfirm, SendsNothing, MadeByHidden, Makes}
-use Rattle.dna_queues.proofs.Goes.{Link, node_port}
+use Rattle.dna_queues.proofs.{Goes.Link, Goes.node_port, Early.none_before, Hide.LateLink, Hide.hide, SentTimed.Sound, SettledTimed.sends_so}
+use Rattle.dna_queues.proofs.{SettledTimed.settle_sound}
 use Rattle.dna_queues.proofs.LinkLists.{IsSet, set_changed, at_none, at_found}
 use Rattle.dna_queues.proofs.Turns.{Sane, live_node, called_phase}
-use Rattle.dna_queues.proofs.Early.{none_before}
-use Rattle.dna_queues.proofs.Hide.{LateLink, hide}
 use Rattle.dna_queues.proofs.Dues.{put_packets, none_link, Due, put, put_here, AreSane}
 use Rattle.dna_queues.proofs.Timed.{Awaits, packets_of, Timed}
 use Rattle.dna_queues.proofs.Prepared.{due_none, set_timed, set_sane}
-use Rattle.dna_queues.proofs.SentTimed.{Sound}
 use Rattle.dna_queues.proofs.Addressed.{no_packets, called_use, flushed, flushed_number, flushed_none, says_no_more}
-use Rattle.dna_queues.proofs.SettledTimed.{sends_so, settle_sound}
 
 module _ (s : machine.Links) (sane : AreSane s) (later : List LinkRecord) (packet : Carried) (dst src reason : ℕ)
     (is : packet.message ≡ DisconnectConfirm dst src reason) (may : (packet.src == s.node && packet.dst == s.peer) ≡ true)
@@ -86,7 +68,8 @@ module _ (s : machine.Links) (sane : AreSane s) (later : List LinkRecord) (packe
           sane_called = sane.each i l found.there
 
           same : changed i (refused_link l) s ≡ made.links
-          same = ap (λ (x : Link). changed i x s) (sym (refused_is l (sane_called.called (ap is_called (called_phase dst l.port found.passed))).1)) ∙ was
+          same = ap (λ (x : Link). changed i x s) (sym (refused_is l (sane_called.called (ap is_called (called_phase dst l.port found.passed))).1))
+              ∙ was
 
           set : IsSet s made.links i (refused_link l)
           set = subst (λ (x : machine.Links). IsSet s x i (refused_link l)) same

@@ -1,16 +1,10 @@
 -- What a link's user was given of its segments no sending looks at, and none changes.
-use Rattle.std.proofs.Common.{◌≡◌, ℕ, ◌-◌, ◌&&◌, Bool, true, false, not, nat_le, nat_lt, cond, Option, Some, None, List, Result, Ok, Err, refl, sym}
-use Rattle.std.proofs.Common.{ap, ◌∙◌, length, subst}
-use Rattle.dna_packet.specs.declared.ack_word.AckWord.{AckWord}
-use Rattle.dna_packet.specs.Nsp.{SegmentValue}
-use Rattle.dna_station.specs.declared.link_refusal.LinkRefusal.{LinkRefusal}
-use Rattle.dna_station.specs.declared.link_refusal.LinkRefusal.TheVariants.{WrongSegment, SegmentTooLong, LinkWindowFull}
-use Rattle.dna_links.specs.Segmentation.{Piece, piece_of, is_next_piece}
-use Rattle.dna_links.specs.SegmentBook.{Sending, Late, with_gap, wider, REACH, wire, distance}
-use Rattle.dna_links.specs.TrueSegments.{TrueSegments, Numbers, Named, NamedLate, highest_given, highest_received, all_named, all_named_late}
-use Rattle.dna_links.specs.TrueSegments.{is_new, is_repeat, sends_new, sends_again, segment_named, sends_segment, sends_late, new_late, went_on}
-use Rattle.dna_links.specs.TrueSegments.{acks_named, sends_acks}
-use Rattle.dna_links.proofs.Tables.Outcomes.{checked}
+use Rattle.dna_queues.proofs.Prelude.{◌≡◌, ℕ, ◌-◌, ◌&&◌, Bool, true, false, not, nat_le, nat_lt, cond, Option, Some, None, List, Result, Ok, Err}
+use Rattle.dna_queues.proofs.Prelude.{refl, sym, ap, ◌∙◌, length, subst, AckWord, SegmentValue, LinkRefusal, WrongSegment, SegmentTooLong}
+use Rattle.dna_queues.proofs.Prelude.{LinkWindowFull, Piece, piece_of, is_next_piece, Sending, Late, with_gap, wider, REACH, wire, distance}
+use Rattle.dna_queues.proofs.Prelude.{TrueSegments, Numbers, Named, NamedLate, highest_given, highest_received, all_named, all_named_late, is_new}
+use Rattle.dna_queues.proofs.Prelude.{is_repeat, sends_new, sends_again, segment_named, sends_segment, sends_late, new_late, went_on, acks_named}
+use Rattle.dna_queues.proofs.Prelude.{sends_acks, checked}
 use Rattle.dna_queues.proofs.Facts.{passed_check, same_Ok}
 
 -- these messages were delivered, which came in so many segments

@@ -1,36 +1,15 @@
 -- A message is delivered: nothing that is sent looks at that.
-use Rattle.std.proofs.Common.{◌≡◌, ℕ, ◌+◌, Bool, true, false, Option, Some, None, List, [], ◌∷◌, ◌++◌, drop, Ok, Err, refl, sym, ap, ap₂, ◌∙◌, subst}
-use Rattle.std.specs.Prelude.{slice_get}
-use Rattle.std.specs.Str.{bytes_eq}
-use Rattle.std.proofs.lemmas.Option.{same_Some}
-use Rattle.dna_station.specs.declared.link_refusal.LinkRefusal.TheVariants.{NoLink}
-use Rattle.dna_links.specs.declared.port.Phase.{Phase}
-use Rattle.dna_links.specs.declared.port.Port.{Port}
-use Rattle.dna_links.specs.declared.port.LinkTest.TheVariants.{HasAddress}
-use Rattle.dna_links.specs.declared.queue.Queues.TheVariants.{With}
-use Rattle.dna_links.specs.LookUps.{is_at}
-use Rattle.dna_links.specs.Segmentation.{Whole, next_message}
-use Rattle.dna_links.specs.Links.{changed, with_segments}
-use Rattle.dna_links.specs.Queues.{port_of_waiting}
-use Rattle.dna_links.specs.LinkBook.{user_step}
-use Rattle.dna_links.specs.User.{Up}
-use Rattle.dna_links.specs.inner.Forms.{delivered}
-use Rattle.dna_links.specs.TrueSegments.{TrueSegments, delivers, delivers_whole, delivered_as, true_segments}
+use Rattle.dna_queues.proofs.Prelude.{◌≡◌, ℕ, ◌+◌, Bool, true, false, Option, Some, None, List, [], ◌∷◌, ◌++◌, drop, Ok, Err, refl, sym, ap, ap₂}
+use Rattle.dna_queues.proofs.Prelude.{◌∙◌, subst, slice_get, bytes_eq, same_Some, NoLink, Phase, Port, HasAddress, With, is_at, Whole, next_message}
+use Rattle.dna_queues.proofs.Prelude.{changed, with_segments, port_of_waiting, user_step, Up, delivered, TrueSegments, delivers, delivers_whole}
+use Rattle.dna_queues.proofs.Prelude.{delivered_as, true_segments, IsFound, looked, LinkRecord, OfUser, late_segments, Node, over, delivered_over}
+use Rattle.dna_queues.proofs.Prelude.{UserDoes}
 use Rattle.dna_links.specs.TrueLinks as machine
-use Rattle.dna_links.proofs.Tables.Outcomes.{IsFound, looked}
-use Rattle.dna_queues.proofs.Facts.{same_Ok}
-use Rattle.dna_queues.specs.Records.{LinkRecord, OfUser}
-use Rattle.dna_queues.specs.Hidden.{late_segments, Node, over, delivered_over}
-use Rattle.dna_queues.specs.Made.{UserDoes}
+use Rattle.dna_queues.proofs.{Facts.same_Ok, Given.own_owns, Delivered.Leaves, Delivered.given_user, Moved.moved, Moved.gone_before, Dues.Went}
+use Rattle.dna_queues.proofs.{Dues.AreSane, SentTimed.Sound, UserTimed.Changes, UserTimed.one_sound}
 use Rattle.dna_queues.proofs.Goes.{Link, phase_of, node_own, at_node}
 use Rattle.dna_queues.proofs.LinkLists.{IsUnique, IsSet, set_changed, at_found}
-use Rattle.dna_queues.proofs.Given.{own_owns}
-use Rattle.dna_queues.proofs.Delivered.{Leaves, given_user}
-use Rattle.dna_queues.proofs.Moved.{moved, gone_before}
 use Rattle.dna_queues.proofs.Hide.{LateLink, hide, found}
-use Rattle.dna_queues.proofs.Dues.{Went, AreSane}
-use Rattle.dna_queues.proofs.SentTimed.{Sound}
-use Rattle.dna_queues.proofs.UserTimed.{Changes, one_sound}
 
 -- what is delivered of segments that received the same is the same
 record DeliversToo (message : List ℕ) (f d g : TrueSegments) : Type 0 where

@@ -1,22 +1,10 @@
 -- What was composed of each link and is sent later, and the links with it.
-use Rattle.std.proofs.Common.{◌≡◌, ℕ, Bool, true, false, ◌==◌, cond, Option, Some, None, List, [], ◌∷◌, refl, sym, ap, ap₂, ◌∙◌, subst, inl, inr}
-use Rattle.std.specs.Prelude.{slice_get}
-use Rattle.std.proofs.lemmas.Bool.{cases_eq}
-use Rattle.dna_packet.specs.Nsp.{NspValue}
-use Rattle.dna_links.specs.declared.port.Phase.{Phase}
-use Rattle.dna_links.specs.declared.port.Port.{Port}
-use Rattle.dna_links.specs.declared.queue.Queues.TheVariants.{With}
-use Rattle.dna_links.specs.LookUps.{is_at}
-use Rattle.dna_links.specs.Links.{Carried}
-use Rattle.dna_links.specs.Queues.{in_use}
+use Rattle.dna_queues.proofs.Prelude.{◌≡◌, ℕ, Bool, true, false, ◌==◌, cond, Option, Some, None, List, [], ◌∷◌, refl, sym, ap, ap₂, ◌∙◌, subst, inl}
+use Rattle.dna_queues.proofs.Prelude.{inr, slice_get, cases_eq, NspValue, Phase, Port, With, is_at, Carried, in_use}
 use Rattle.dna_links.specs.TrueLinks as machine
 use Rattle.dna_queues.proofs.Goes.{Link, phase_of, Goes, node_port}
-use Rattle.dna_queues.proofs.LinkLists.{IsUnique}
-use Rattle.dna_queues.proofs.Beside.{eqb-same, eqb-other}
-use Rattle.dna_queues.proofs.Delivered.{Leaves}
-use Rattle.dna_queues.proofs.Shapes.{goes_shape}
-use Rattle.dna_queues.proofs.Turns.{Sane}
-use Rattle.dna_queues.proofs.Early.{AreEarly, CanGo}
+use Rattle.dna_queues.proofs.{LinkLists.IsUnique, Beside.eqb-same, Beside.eqb-other, Delivered.Leaves, Shapes.goes_shape, Turns.Sane}
+use Rattle.dna_queues.proofs.{Early.AreEarly, Early.CanGo}
 
 pub record Due : Type 0 where
   pub packets : List Carried

@@ -1,16 +1,11 @@
 -- Messages that a link sends one after another, those of them that have to be composed before its phase, and those that it can compose in it.
-use Rattle.std.proofs.Common.{◌≡◌, ℕ, Bool, true, false, ◌&&◌, ◌||◌, ◌==◌, Option, Some}
-use Rattle.std.proofs.Common.{None, is_none, List, [], ◌∷◌, ◌++◌, refl, sym, ap, ◌∙◌, subst, inl, inr}
-use Rattle.dna_packet.specs.Nsp.{NspValue, IsInRange}
-use Rattle.dna_links.specs.declared.port.Phase.{Phase}
-use Rattle.dna_links.specs.declared.port.Phase.TheVariants.{Calling, Called, Confirming, Running, Disconnecting}
-use Rattle.dna_links.specs.Links.{Carried}
+use Rattle.dna_queues.proofs.Prelude.{◌≡◌, ℕ, Bool, true, false, ◌&&◌, ◌||◌, ◌==◌, Option, Some, None, is_none, List, [], ◌∷◌, ◌++◌, refl, sym, ap}
+use Rattle.dna_queues.proofs.Prelude.{◌∙◌, subst, inl, inr, NspValue, IsInRange, Phase, Calling, Called, Confirming, Running, Disconnecting}
+use Rattle.dna_queues.proofs.Prelude.{Carried, or_right, or_cases}
 use Rattle.dna_queues.proofs.Goes.{Link, phase_of, Goes}
-use Rattle.dna_queues.proofs.Shapes.{Shape, goes_shape}
+use Rattle.dna_queues.proofs.{Shapes.Shape, Shapes.goes_shape, Facts.by_test, Facts.not_both}
 use Rattle.dna_queues.proofs.Turns.{asks, is_past, is_now, is_in_same, Sane, sane_on, turn, HasSaid, said_on, said_now, nothing_past}
 use Rattle.dna_queues.proofs.Turns.{has_past, IsMute, mute_never, mute_on}
-use Rattle.dna_queues.proofs.Facts.{by_test, not_both}
-use Rattle.std.proofs.lemmas.Bool.{or_right, or_cases}
 
 -- what has to be composed before this phase, with what stands before it: the last of it is of a phase that is past
 abbrev pub is_early : Phase → Carried → Bool

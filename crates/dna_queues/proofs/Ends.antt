@@ -1,38 +1,20 @@
 -- A DC is sent where nothing waits: the machine settles the link with its SRCADDR, or ends the call that it refuses.
-use Rattle.std.proofs.Common.{◌≡◌, ℕ, Bool, true, false, ◌&&◌, ◌==◌, cond, Option, Some, None, List, [], Result, Ok, Err}
-use Rattle.std.proofs.Common.{refl, sym, ap, ap₂, ◌∙◌, subst}
-use Rattle.std.specs.Prelude.{slice_get}
-use Rattle.std.proofs.lemmas.Bool.{and_parts}
-use Rattle.dna_packet.specs.Nsp.{NoOperation, DisconnectConfirm}
-use Rattle.dna_station.specs.declared.link_refusal.LinkRefusal.{LinkRefusal}
-use Rattle.dna_station.specs.declared.link_refusal.LinkRefusal.TheVariants.{WrongNode, LinkState}
-use Rattle.dna_links.specs.declared.port.Port.{Port}
-use Rattle.dna_links.specs.declared.port.LinkTest.TheVariants.{HasAddress, TheLink, CalledBy}
-use Rattle.dna_links.specs.declared.queue.Queues.TheVariants.{Without, With}
-use Rattle.dna_links.specs.LookUps.{passes, is_at, is_called}
-use Rattle.dna_links.specs.Links.{Carried, number_of, with_link, changed}
-use Rattle.dna_links.specs.Queues.{drops, ended, settled}
-use Rattle.dna_links.specs.inner.Forms.{of_no_link, truth_of, ending}
-use Rattle.dna_links.specs.Sending.{Sent, sent_step, message_sent}
-use Rattle.dna_links.specs.TrueSegments.{TrueSegments, Numbers, sends_other, true_segments}
+use Rattle.dna_queues.proofs.Prelude.{◌≡◌, ℕ, Bool, true, false, ◌&&◌, ◌==◌, cond, Option, Some, None, List, [], Result, Ok, Err, refl, sym, ap}
+use Rattle.dna_queues.proofs.Prelude.{ap₂, ◌∙◌, subst, slice_get, and_parts, NoOperation, DisconnectConfirm, LinkRefusal, WrongNode, LinkState}
+use Rattle.dna_queues.proofs.Prelude.{Port, HasAddress, TheLink, CalledBy, Without, With, passes, is_at, is_called, Carried, number_of, with_link}
+use Rattle.dna_queues.proofs.Prelude.{changed, drops, ended, settled, of_no_link, truth_of, ending, Sent, sent_step, message_sent, TrueSegments}
+use Rattle.dna_queues.proofs.Prelude.{Numbers, sends_other, true_segments, IsFound, looked, checked, AreAnswered, links_left}
+use Rattle.dna_queues.proofs.Prelude.{LateSegments, late_segments, Links, Node, link_it_is_for, link_it_is_of, waiting, IsFree, EndsCall}
 use Rattle.dna_links.specs.TrueLinks as machine
-use Rattle.dna_links.proofs.Tables.Outcomes.{IsFound, looked, checked}
 use Rattle.dna_queues.proofs.Facts.{passed_check, same_Ok, refused_is}
-use Rattle.dna_queues.specs.Records.{AreAnswered, links_left, next_links}
 use Rattle.dna_queues.specs.Records as records
-use Rattle.dna_queues.specs.Hidden.{LateSegments, late_segments, Links, Node, link_it_is_for, link_it_is_of, waiting}
-use Rattle.dna_queues.specs.Made.{IsFree, EndsCall}
-use Rattle.dna_queues.proofs.Goes.{Link}
-use Rattle.dna_queues.proofs.Acting.{LateLink}
-use Rattle.dna_queues.proofs.Follows.{Follows, is_behind}
+use Rattle.dna_queues.proofs.{Goes.Link, Acting.LateLink, Follows.Follows, Follows.is_behind, SentOn.Follow, Settled.dead_follows}
+use Rattle.dna_queues.proofs.{Settled.settled_follows, Sending.link_owns}
 use Rattle.dna_queues.proofs.LinkLists.{set_changed, unique_set, IsChanged, changed_none, changed_one, at_none, at_found, none_passes}
 use Rattle.dna_queues.proofs.LinkLists.{there_too, changed_each, changed_so}
 use Rattle.dna_queues.proofs.Beside.{Beside, follows_as, unique_too}
-use Rattle.dna_queues.proofs.SentOn.{Follow}
 use Rattle.dna_queues.proofs.Given.{own_owns, meets_now, nothing_for, nothing_of, owner_same}
 use Rattle.dna_queues.proofs.Calls.{set_beside, called_same, called_meets}
-use Rattle.dna_queues.proofs.Settled.{dead_follows, settled_follows}
-use Rattle.dna_queues.proofs.Sending.{link_owns}
 
 -- ---- the record
 

@@ -1,27 +1,15 @@
 -- A packet that ends its link, or finds no live one, is acted on.
-use Rattle.std.proofs.Common.{◌≡◌, ℕ, Bool, true, false, ◌||◌, cond, Some, Ok, refl, sym, ap, ◌∙◌, subst}
-use Rattle.std.specs.Prelude.{slice_get}
-use Rattle.std.proofs.lemmas.Bool.{and_parts, false_from_ne_true}
-use Rattle.std.proofs.lemmas.Option.{same_Some}
-use Rattle.dna_packet.specs.Nsp.{NspValue, DataSegment, LinkService, DataAck, OtherDataAck, ConnectConfirm, DisconnectInitiate, DisconnectConfirm}
-use Rattle.dna_station.specs.declared.link_refusal.LinkRefusal.TheVariants.{CrossedLink}
-use Rattle.dna_links.specs.declared.port.Phase.{Phase}
-use Rattle.dna_links.specs.declared.port.Phase.TheVariants.{Calling}
-use Rattle.dna_links.specs.declared.port.Port.{Port}
-use Rattle.dna_links.specs.declared.port.LinkTest.{LinkTest}
-use Rattle.dna_links.specs.declared.port.LinkTest.TheVariants.{TheLink, CallingAt, ActedOn}
-use Rattle.dna_links.specs.declared.queue.Queues.TheVariants.{Without}
-use Rattle.dna_links.specs.LookUps.{passes, is_in, is_live, is_at, is_connected, has_both}
-use Rattle.dna_links.specs.Links.{LinkTruth, check, with_link, changed}
-use Rattle.dna_links.specs.Arriving.{of_partner, is_for, is_of_pair, message_arrived}
-use Rattle.dna_links.specs.TrueSegments.{Numbers, takes_segment, takes_acks}
+use Rattle.dna_queues.proofs.Prelude.{◌≡◌, ℕ, Bool, true, false, ◌||◌, cond, Some, Ok, refl, sym, ap, ◌∙◌, subst, slice_get, and_parts}
+use Rattle.dna_queues.proofs.Prelude.{false_from_ne_true, same_Some, NspValue, DataSegment, LinkService, DataAck, OtherDataAck, ConnectConfirm}
+use Rattle.dna_queues.proofs.Prelude.{DisconnectInitiate, DisconnectConfirm, CrossedLink, Phase, Calling, Port, LinkTest, TheLink, CallingAt}
+use Rattle.dna_queues.proofs.Prelude.{ActedOn, Without, passes, is_in, is_live, is_at, is_connected, has_both, LinkTruth, check, with_link, changed}
+use Rattle.dna_queues.proofs.Prelude.{of_partner, is_for, is_of_pair, message_arrived, Numbers, takes_segment, takes_acks, late_segments, Links}
+use Rattle.dna_queues.proofs.Prelude.{dstaddr}
 use Rattle.dna_queues.proofs.Facts.{calling_live, connected_live, dead_phase, not_both}
-use Rattle.dna_queues.specs.Hidden.{late_segments, Links, dstaddr}
 use Rattle.dna_queues.proofs.Acting.{ended_late, confirmed_late, run_late}
 use Rattle.dna_queues.proofs.Arrivals.{calling_owns, acted_owns, row_made, either, either_made}
 use Rattle.dna_queues.proofs.LinkLists.{IsUnique, IsChanged, changed_so}
-use Rattle.dna_queues.proofs.Hide.{LateLink}
-use Rattle.dna_queues.proofs.Timed.{is_end}
+use Rattle.dna_queues.proofs.{Hide.LateLink, Timed.is_end}
 
 -- it ends the link with this address, if that is live
 abbrev pub EndsAt : Links → ℕ → NspValue → Type 0

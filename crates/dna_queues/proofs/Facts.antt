@@ -1,15 +1,7 @@
 -- Facts of tests, phases and refusals that many proofs name.
-use Rattle.std.proofs.Common.{◌≡◌, Bool, true, false, Result, Ok, refl, ap, Option, Some, None, Err}
-use Rattle.dna_station.specs.declared.link_refusal.LinkRefusal.{LinkRefusal}
-use Rattle.dna_links.specs.declared.port.Phase.{Phase}
-use Rattle.dna_links.specs.declared.port.Phase.TheVariants.{Calling, Confirming, Running, Ended}
-use Rattle.dna_links.specs.LookUps.{is_in, is_live, is_connected}
-use Rattle.dna_links.specs.Links.{LinkOf, check}
-use Rattle.dna_links.specs.declared.queue.Queues.TheVariants.{With}
-use Rattle.dna_links.specs.Queues.{lets_go, drops, drops_segments, call_of}
-use Rattle.dna_links.specs.TrueSegments.{TrueSegments, true_segments, Numbers}
-use Rattle.dna_links.specs.Sending.{Sent}
-use Rattle.dna_links.specs.LinkBook.{on_ok}
+use Rattle.dna_queues.proofs.Prelude.{◌≡◌, Bool, true, false, Result, Ok, refl, ap, Option, Some, None, Err, LinkRefusal, Phase, Calling}
+use Rattle.dna_queues.proofs.Prelude.{Confirming, Running, Ended, is_in, is_live, is_connected, LinkOf, check, With, lets_go, drops, drops_segments}
+use Rattle.dna_queues.proofs.Prelude.{call_of, TrueSegments, true_segments, Numbers, Sent, on_ok}
 
 -- what follows from a test whichever way it goes
 pub by_test : {P : Type 0} (b : Bool) → (b ≡ true → P) → (b ≡ false → P) → P

@@ -1,17 +1,9 @@
 -- A link of the machine beside that of the node, and when the latter acts on the first packet that waits for it.
-use Rattle.std.proofs.Common.{◌≡◌, ℕ, ◌≤◌, true, false, Option, None, List, ◌∷◌, refl, sym, ap, ◌∙◌, subst, arith}
-use Rattle.dna_links.specs.declared.port.Phase.{Phase}
-use Rattle.dna_links.specs.declared.port.Phase.TheVariants.{Confirming, Running}
-use Rattle.dna_links.specs.declared.port.Port.{Port}
-use Rattle.dna_links.specs.LookUps.{is_in, is_live, is_at, is_calling, is_called}
-use Rattle.dna_links.specs.Segmentation.{in_order}
-use Rattle.dna_links.specs.CutSegments.{IsAnswered}
-use Rattle.dna_links.specs.Runs.{SentMessage}
-use Rattle.dna_queues.proofs.Pieces.{below_order}
+use Rattle.dna_queues.proofs.Prelude.{◌≡◌, ℕ, ◌≤◌, true, false, Option, None, List, ◌∷◌, refl, sym, ap, ◌∙◌, subst, arith, Phase, Confirming}
+use Rattle.dna_queues.proofs.Prelude.{Running, Port, is_in, is_live, is_at, is_calling, is_called, in_order, IsAnswered, SentMessage}
+use Rattle.dna_queues.proofs.{Pieces.below_order, WaitsToGo.CanSend, WaitsToGo.can_more, Came.Fits}
 use Rattle.dna_queues.proofs.Goes.{Link, phase_of, Grows}
-use Rattle.dna_queues.proofs.WaitsToGo.{CanSend, can_more}
 use Rattle.dna_queues.proofs.Ahead.{Seen, Ahead, IsFresh, Behind, later, behind}
-use Rattle.dna_queues.proofs.Came.{Fits}
 use Rattle.dna_queues.proofs.Acting.{LateLink, lift, seen_as, acts_as, acts_on}
 
 -- ---- the two links

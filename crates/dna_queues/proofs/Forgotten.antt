@@ -1,30 +1,13 @@
 -- Links without queues beside the links of a node with queues for which nothing waits: but for the gap they are the same.
-use Rattle.std.proofs.Common.{◌≡◌, ℕ, Option, Some, None, List, [], ◌∷◌, map, option_map, Ok, Err, refl, sym, ap, ap₂, ◌∙◌}
-use Rattle.std.specs.Prelude.{slice_get}
-use Rattle.std.proofs.lemmas.Option.{slice_get-map}
-use Rattle.std.proofs.lemmas.List.{map-append, map-set}
-use Rattle.dna_station.specs.declared.link_refusal.LinkRefusal.TheVariants.{NoLink, LinkState, AddressInUse}
-use Rattle.dna_links.specs.declared.port.Phase.{Phase}
-use Rattle.dna_links.specs.declared.port.Phase.TheVariants.{Confirming, Disconnecting}
-use Rattle.dna_links.specs.declared.port.LinkTest.{LinkTest}
-use Rattle.dna_links.specs.declared.port.LinkTest.TheVariants.{HasAddress, LiveAt, CalledBy}
-use Rattle.dna_links.specs.declared.queue.Queues.TheVariants.{Without}
-use Rattle.dna_links.specs.LookUps.{passes, takes_messages, is_calling, is_connected}
-use Rattle.dna_links.specs.Links.{number_of, on_link, at_number, with_link, begun, changed, in_phase, with_segments}
-use Rattle.dna_links.specs.LinkBook.{user_step}
-use Rattle.dna_links.specs.Queues.{ended, forgotten, freed, booted_link, booted}
-use Rattle.dna_links.specs.inner.Forms.{opened, answered, delivered}
-use Rattle.dna_links.specs.User.{LinkEventValue, Accept, Reject}
-use Rattle.dna_links.specs.TrueSegments.{TrueSegments, hands_in, delivers, true_segments}
+use Rattle.dna_queues.proofs.Prelude.{◌≡◌, ℕ, Option, Some, None, List, [], ◌∷◌, map, option_map, Ok, Err, refl, sym, ap, ap₂, ◌∙◌, slice_get}
+use Rattle.dna_queues.proofs.Prelude.{slice_get-map, map-append, map-set, NoLink, AddressInUse, Phase, Confirming, Disconnecting}
+use Rattle.dna_queues.proofs.Prelude.{LinkTest, HasAddress, LiveAt, CalledBy, Without, passes, takes_messages, is_calling, is_connected, number_of}
+use Rattle.dna_queues.proofs.Prelude.{on_link, at_number, with_link, begun, changed, in_phase, with_segments, user_step, ended, forgotten, freed}
+use Rattle.dna_queues.proofs.Prelude.{booted_link, booted, opened, answered, delivered, LinkEventValue, Accept, Reject, TrueSegments, hands_in}
+use Rattle.dna_queues.proofs.Prelude.{delivers, true_segments, IsFound, user_did, position-map, late_segments, over, delivered_over, Links}
 use Rattle.dna_links.specs.TrueLinks as plain
-use Rattle.dna_links.proofs.Tables.Outcomes.{IsFound, user_did}
 use Rattle.dna_links.proofs.Tables.Outcomes as outcomes
-use Rattle.dna_links.proofs.Cut.LookUps.{position-map}
-use Rattle.dna_queues.proofs.Facts.{passed_check}
-use Rattle.dna_queues.specs.Hidden.{late_segments, over, delivered_over, Links}
-use Rattle.dna_queues.proofs.Goes.{Link}
-use Rattle.dna_queues.proofs.Acting.{LateLink}
-use Rattle.dna_queues.proofs.LinkLists.{at_found, at_none}
+use Rattle.dna_queues.proofs.{Facts.passed_check, Goes.Link, Acting.LateLink, LinkLists.at_found, LinkLists.at_none}
 
 abbrev pub forget : LateLink → Link
 forget h = record { port = h.port; partner = h.partner; segsize = h.segsize; segments = h.segments.segments; queue = h.queue }

@@ -1,39 +1,17 @@
 -- An address is given where nothing waits for it or of it: the link that had it is dead in the machine too.
-use Rattle.std.proofs.Common.{◌≡◌, ℕ, Bool, true, false, ◌&&◌, cond, Option, Some, None, List, [], length, refl, sym, ap, ap₂, ◌∙◌, subst, eqb-true}
-use Rattle.std.specs.Prelude.{slice_get}
-use Rattle.std.proofs.lemmas.Bool.{and_parts, false_from_ne_true}
-use Rattle.dna_links.specs.declared.port.Phase.TheVariants.{Running, Disconnecting, Ended}
-use Rattle.dna_links.specs.declared.port.Port.{Port}
-use Rattle.dna_links.specs.declared.port.LinkTest.{LinkTest}
-use Rattle.dna_links.specs.declared.port.LinkTest.TheVariants.{HasAddress, LiveAt}
-use Rattle.dna_links.specs.declared.queue.Queues.{Queues}
-use Rattle.dna_links.specs.declared.queue.Queues.TheVariants.{Without, With}
-use Rattle.dna_links.specs.LookUps.{passes, is_in, is_live, is_called, is_at}
-use Rattle.dna_links.specs.SegmentBook.{SegmentBook}
-use Rattle.dna_links.specs.Links.{LinksOf, number_of, begun, changed}
-use Rattle.dna_links.specs.Queues.{forgotten, freed}
-use Rattle.dna_links.specs.inner.Forms.{opened}
-use Rattle.dna_links.specs.User.{Open}
-use Rattle.dna_links.specs.TrueSegments.{true_segments}
+use Rattle.dna_queues.proofs.Prelude.{◌≡◌, ℕ, Bool, true, false, ◌&&◌, cond, Option, Some, None, List, [], length, refl, sym, ap, ap₂, ◌∙◌, subst}
+use Rattle.dna_queues.proofs.Prelude.{eqb-true, slice_get, and_parts, false_from_ne_true, Running, Disconnecting, Ended, Port, LinkTest, HasAddress}
+use Rattle.dna_queues.proofs.Prelude.{LiveAt, Queues, Without, With, passes, is_in, is_live, is_called, is_at, SegmentBook, LinksOf, number_of}
+use Rattle.dna_queues.proofs.Prelude.{begun, changed, forgotten, freed, opened, Open, true_segments, SentMessage, looked}
+use Rattle.dna_queues.proofs.Prelude.{late_segments, Node, link_it_is_for, link_it_is_of, waiting, IsFree}
 use Rattle.dna_links.specs.TrueLinks as machine
-use Rattle.dna_links.specs.Runs.{SentMessage}
-use Rattle.dna_links.proofs.Tables.Outcomes.{looked}
 use Rattle.dna_queues.proofs.Facts.{dead_phase, not_both, by_test}
-use Rattle.dna_queues.specs.Records.{AreAnswered, next_links}
 use Rattle.dna_queues.specs.Records as records
-use Rattle.dna_queues.specs.Hidden.{late_segments, Node, link_it_is_for, link_it_is_of, waiting}
-use Rattle.dna_queues.specs.Made.{IsFree}
-use Rattle.dna_queues.proofs.Goes.{Link, phase_of}
-use Rattle.dna_queues.proofs.Ahead.{Meets, Ahead}
-use Rattle.dna_queues.proofs.Acting.{LateLink, seen_as}
-use Rattle.dna_queues.proofs.Follows.{Follows, is_behind}
-use Rattle.dna_queues.proofs.Lists.{waiting_none}
+use Rattle.dna_queues.proofs.{Goes.Link, Goes.phase_of, Ahead.Meets, Ahead.Ahead, Acting.LateLink, Acting.seen_as, Follows.Follows}
+use Rattle.dna_queues.proofs.{Follows.is_behind, Lists.waiting_none, Begun.begun_beside, Begun.opened_follows, Waiting.of_same, SentOn.Follow}
 use Rattle.dna_queues.proofs.LinkLists.{IsUnique, IsChanged, changed_none, changed_one, at_none, none_passes, found_one, number_same, changed_each}
 use Rattle.dna_queues.proofs.LinkLists.{changed_so}
 use Rattle.dna_queues.proofs.Beside.{Beside, follows_as, unique_too}
-use Rattle.dna_queues.proofs.Begun.{begun_beside, opened_follows}
-use Rattle.dna_queues.proofs.Waiting.{of_same}
-use Rattle.dna_queues.proofs.SentOn.{Follow}
 
 -- ---- the link that had the address
 

@@ -1,37 +1,17 @@
 -- An address is given: what waits for it is acted on before, and the link that had it is forgotten. So where a link is opened.
-use Rattle.std.proofs.Common.{◌≡◌, ℕ, ◌≤◌, Bool, true, false, ◌&&◌, Option, Some, None, List, [], ◌∷◌, refl, sym, ap, ap₂, ◌∙◌, subst, eqb-true, arith}
-use Rattle.std.specs.Prelude.{slice_get}
-use Rattle.dna_links.specs.declared.port.Phase.{Phase}
-use Rattle.dna_links.specs.declared.port.Phase.TheVariants.{Ended}
-use Rattle.dna_links.specs.declared.port.Port.{Port}
-use Rattle.dna_links.specs.declared.port.LinkTest.TheVariants.{HasAddress, LiveAt}
-use Rattle.dna_links.specs.declared.queue.Queues.TheVariants.{Without, With}
-use Rattle.dna_links.specs.LookUps.{passes, is_live, is_called, is_at}
-use Rattle.dna_links.specs.Links.{Carried, number_of, begun, changed}
-use Rattle.dna_links.specs.Queues.{freed, forgotten}
-use Rattle.dna_links.specs.inner.Forms.{opened}
-use Rattle.dna_links.specs.User.{Open}
-use Rattle.dna_links.specs.TrueSegments.{true_segments}
+use Rattle.dna_queues.proofs.Prelude.{◌≡◌, ℕ, ◌≤◌, Bool, true, false, ◌&&◌, Option, Some, None, List, [], ◌∷◌, refl, sym, ap, ap₂, ◌∙◌, subst}
+use Rattle.dna_queues.proofs.Prelude.{eqb-true, arith, slice_get, Phase, Ended, Port, HasAddress, LiveAt, Without, With, passes, is_live, is_called}
+use Rattle.dna_queues.proofs.Prelude.{is_at, Carried, number_of, begun, changed, freed, forgotten, opened, Open, true_segments, IsFound, looked}
+use Rattle.dna_queues.proofs.Prelude.{LinkRecord, OfUser, late_segments, Links, Node, link_it_is_for, IsFree, UserDoes, Makes, false_from_ne_true}
 use Rattle.dna_links.specs.TrueLinks as machine
-use Rattle.dna_links.proofs.Tables.Outcomes.{IsFound, looked}
-use Rattle.dna_queues.proofs.Facts.{dead_phase, not_both}
-use Rattle.dna_queues.specs.Records.{LinkRecord, OfUser}
-use Rattle.dna_queues.specs.Hidden.{late_segments, Links, Node, link_it_is_for}
-use Rattle.dna_queues.specs.Made.{IsFree, UserDoes, Makes}
+use Rattle.dna_queues.proofs.{Facts.dead_phase, Facts.not_both, Given.freed_changed, Lists.waiting_none, Turns.Began, Turns.has_past, Hide.hide}
+use Rattle.dna_queues.proofs.{Timed.Timed, Prepared.set_sane_free, SentTimed.Sound}
 use Rattle.dna_queues.proofs.Goes.{Link, phase_of, node_port, node_own}
-use Rattle.dna_queues.proofs.Given.{freed_changed}
-use Rattle.dna_queues.proofs.Lists.{waiting_none}
 use Rattle.dna_queues.proofs.LinkLists.{IsSet, IsChanged, set_changed, at_none, at_found, none_passes, changed_each}
-use Rattle.dna_queues.proofs.Turns.{Began, has_past}
 use Rattle.dna_queues.proofs.Early.{CanGo, AreEarly, none_before}
-use Rattle.dna_queues.proofs.Hide.{hide}
 use Rattle.dna_queues.proofs.Dues.{Due, AreDue, AreSane}
-use Rattle.dna_queues.proofs.Timed.{Timed}
-use Rattle.dna_queues.proofs.Prepared.{set_sane_free}
-use Rattle.dna_queues.proofs.SentTimed.{Sound}
 use Rattle.dna_queues.proofs.Addressed.{stripped, awaits_nothing, flushed, flushed_number, flushed_owner, Addressed, addressed}
 use Rattle.dna_queues.proofs.BegunTimed.{begun_sane, begun_due, begun_timed}
-use Rattle.std.proofs.lemmas.Bool.{false_from_ne_true}
 
 module _ (s : machine.Links) (sane : AreSane s) (own : ℕ) (one : 1 ≤ own) (none_live : number_of (LiveAt own) s ≡ None) where
   abbrev pub left : machine.Links

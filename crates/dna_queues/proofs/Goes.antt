@@ -1,24 +1,12 @@
 -- What a link of the machine may send it may also send once it has come further, and it is then further again.
-use Rattle.std.proofs.Common.{◌≡◌, ℕ, ◌-◌, Bool, true, false, not, ◌&&◌, Option, Some, None, List, Ok, refl, sym, ap, ap₂, ◌∙◌, subst, arith}
-use Rattle.std.proofs.lemmas.Bool.{and_parts}
-use Rattle.dna_packet.specs.declared.ack_word.AckWord.{AckWord}
-use Rattle.dna_packet.specs.Nsp.{SegmentValue, NspValue, DataSegment, LinkService, DataAck, OtherDataAck, ConnectAck, NoOperation, ConnectInitiate}
-use Rattle.dna_packet.specs.Nsp.{ConnectConfirm, DisconnectInitiate, DisconnectConfirm, IsInRange}
-use Rattle.dna_links.specs.declared.port.Phase.{Phase}
-use Rattle.dna_links.specs.declared.port.Phase.TheVariants.{Calling, Called, Confirming, Running, Disconnecting}
-use Rattle.dna_links.specs.declared.port.LinkTest.{LinkTest}
-use Rattle.dna_links.specs.declared.port.LinkTest.TheVariants.{HasAddress, TheLink, OpenedAt, BegunBy}
-use Rattle.dna_links.specs.declared.queue.Queues.TheVariants.{With}
-use Rattle.dna_links.specs.declared.queue.Said.{Said}
-use Rattle.dna_links.specs.declared.queue.Said.TheVariants.{Nothing, OfRun, Disconnect}
-use Rattle.dna_links.specs.LookUps.{passes, is_in, is_live, is_called, is_at, has_both}
-use Rattle.dna_links.specs.SegmentBook.{Sending, Late, wider}
-use Rattle.dna_links.specs.Links.{LinkOf}
-use Rattle.dna_links.specs.Queues.{is_silent, is_over, further, in_use, may_send, port_of_waiting}
-use Rattle.dna_links.specs.TrueSegments.{TrueSegments, Numbers, sends_late, sends_acks, went_on}
-use Rattle.dna_queues.proofs.Words.{Grown, Carries}
-use Rattle.dna_queues.proofs.Segments.{late_grows, acks_grow}
-use Rattle.dna_links.specs.declared.port.Port.{Port}
+use Rattle.dna_queues.proofs.Prelude.{◌≡◌, ℕ, ◌-◌, Bool, true, false, not, ◌&&◌, Option, Some, None, List, Ok, refl, sym, ap, ap₂, ◌∙◌, subst}
+use Rattle.dna_queues.proofs.Prelude.{arith, and_parts, AckWord, SegmentValue, NspValue, DataSegment, LinkService, DataAck, OtherDataAck}
+use Rattle.dna_queues.proofs.Prelude.{ConnectAck, NoOperation, ConnectInitiate, ConnectConfirm, DisconnectInitiate, DisconnectConfirm, IsInRange}
+use Rattle.dna_queues.proofs.Prelude.{Phase, Calling, Called, Confirming, Running, Disconnecting, LinkTest, HasAddress, TheLink, OpenedAt, BegunBy}
+use Rattle.dna_queues.proofs.Prelude.{With, Said, Nothing, OfRun, Disconnect, passes, is_in, is_live, is_called, is_at, has_both, Sending, Late}
+use Rattle.dna_queues.proofs.Prelude.{wider, LinkOf, is_silent, is_over, further, in_use, may_send, port_of_waiting, TrueSegments, Numbers}
+use Rattle.dna_queues.proofs.Prelude.{sends_late, sends_acks, went_on, Port}
+use Rattle.dna_queues.proofs.{Words.Grown, Words.Carries, Segments.late_grows, Segments.acks_grow}
 
 abbrev pub Link : Type 0
 Link = LinkOf TrueSegments

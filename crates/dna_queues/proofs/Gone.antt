@@ -1,33 +1,16 @@
 -- Links of the machine that are the same except for those that are over and have no address: nothing finds those any more, so all goes on alike.
-use Rattle.std.proofs.Common.{◌≡◌, ℕ, Bool, true, false, not, ◌&&◌, ◌==◌, ◌⊎◌, inl, inr, Option, Some, None, List, [], ◌∷◌, length}
-use Rattle.std.proofs.Common.{option_map, Result, Ok, Err, refl, sym, ap, ◌∙◌, subst, arith, position, length-append, length-set}
-use Rattle.std.specs.Prelude.{slice_get}
-use Rattle.std.proofs.lemmas.List.{length-map}
-use Rattle.std.proofs.lemmas.Option.{slice_get-map, slice_get_within, same_Some}
-use Rattle.two_nodes.proofs.NumberedSteps.{at_pushed}
-use Rattle.dna_station.specs.declared.link_refusal.LinkRefusal.{LinkRefusal}
-use Rattle.dna_station.specs.declared.link_refusal.LinkRefusal.TheVariants.{WrongNode}
-use Rattle.dna_links.specs.declared.port.Phase.{Phase}
-use Rattle.dna_links.specs.declared.port.Phase.TheVariants.{Calling, Called, Ended}
-use Rattle.dna_links.specs.declared.port.Port.{Port}
-use Rattle.dna_links.specs.declared.port.LinkTest.{LinkTest}
-use Rattle.dna_links.specs.declared.port.LinkTest.TheVariants.{HasAddress, LiveAt, TheLink, LiveTo, OpenedAt, CallingAt, CalledBy, BegunBy, ActedOn}
-use Rattle.dna_links.specs.declared.queue.Queues.TheVariants.{With}
-use Rattle.dna_links.specs.LookUps.{passes, is_in, is_live, is_at, is_connected, has_both}
-use Rattle.dna_links.specs.Links.{Carried, LinkTruth, check, on_link, at_number, with_link, with_seen, begun, changed}
-use Rattle.dna_links.specs.Queues.{in_use, may_send, port_of_waiting, freed, forgotten, booted_link, booted, settled}
-use Rattle.dna_links.specs.Table.{Ask, Finds, FindsEither, FindsNone, FindsInUse, KnowsInUse, InPhase, InTurn, OrElse, ForThisLink, OfThisPair}
-use Rattle.dna_links.specs.Table.{Delivers, SendsSegment, SendsAcks, Effect, GiveAddress, EndAll, Settle, Row, Asks}
-use Rattle.dna_links.specs.LinkBook.{on_ok, otherwise, asked, by_row, after}
-use Rattle.dna_links.specs.PacketAddresses.{goes}
-use Rattle.dna_links.specs.TrueSegments.{Numbers, true_segments}
+use Rattle.dna_queues.proofs.Prelude.{◌≡◌, ℕ, Bool, true, false, not, ◌&&◌, ◌==◌, ◌⊎◌, inl, inr, Option, Some, None, List, [], ◌∷◌, length}
+use Rattle.dna_queues.proofs.Prelude.{option_map, Result, Ok, Err, refl, sym, ap, ◌∙◌, subst, arith, position, length-append, length-set, slice_get}
+use Rattle.dna_queues.proofs.Prelude.{length-map, slice_get-map, slice_get_within, same_Some, at_pushed, LinkRefusal, WrongNode, Phase, Calling}
+use Rattle.dna_queues.proofs.Prelude.{Called, Ended, Port, LinkTest, HasAddress, LiveAt, TheLink, LiveTo, OpenedAt, CallingAt, CalledBy, BegunBy}
+use Rattle.dna_queues.proofs.Prelude.{ActedOn, With, passes, is_in, is_live, is_at, is_connected, has_both, Carried, LinkTruth, check, on_link}
+use Rattle.dna_queues.proofs.Prelude.{at_number, with_link, with_seen, begun, changed, in_use, may_send, port_of_waiting, freed, forgotten}
+use Rattle.dna_queues.proofs.Prelude.{booted_link, booted, settled, Ask, Finds, FindsEither, FindsNone, FindsInUse, KnowsInUse, InPhase, InTurn}
+use Rattle.dna_queues.proofs.Prelude.{OrElse, ForThisLink, OfThisPair, Delivers, SendsSegment, SendsAcks, Effect, GiveAddress, EndAll, Settle, Row}
+use Rattle.dna_queues.proofs.Prelude.{Asks, on_ok, otherwise, asked, by_row, after, goes, Numbers, true_segments, IsAnswered, position_passes}
+use Rattle.dna_queues.proofs.Prelude.{at_set}
 use Rattle.dna_links.specs.TrueLinks as machine
-use Rattle.dna_links.specs.CutSegments.{IsAnswered}
-use Rattle.dna_links.proofs.Tables.Outcomes.{position_passes}
-use Rattle.dna_links.proofs.Runs.Sides.{at_set}
-use Rattle.dna_queues.proofs.Facts.{not_both, drops_still}
-use Rattle.dna_queues.proofs.Goes.{Link}
-use Rattle.dna_queues.proofs.LinkLists.{position_same, there_too}
+use Rattle.dna_queues.proofs.{Facts.not_both, Facts.drops_still, Goes.Link, LinkLists.position_same, LinkLists.there_too}
 
 pub record IsGone (l : Link) : Type 0 where
   pub phase : l.port.phase ≡ Ended

@@ -1,24 +1,12 @@
 -- What is made of links that are alike except for those that are over and have no address, and what is near to them.
-use Rattle.std.proofs.Common.{◌≡◌, inl, inr, Some, List, [], ◌∷◌, Result, Ok, Err, refl, ap, ◌∙◌, subst}
-use Rattle.std.specs.Prelude.{slice_get}
-use Rattle.dna_packet.specs.Nsp.{NspValue, DataSegment, DataAck}
-use Rattle.dna_station.specs.declared.link_refusal.LinkRefusal.{LinkRefusal}
-use Rattle.dna_links.specs.declared.port.LinkTest.TheVariants.{ActedOn}
-use Rattle.dna_links.specs.declared.queue.Queues.TheVariants.{With}
-use Rattle.dna_links.specs.Links.{LinkTruth}
-use Rattle.dna_links.specs.Table.{user_row, sending_row, arrival_row}
-use Rattle.dna_links.specs.LinkBook.{after, of_none}
-use Rattle.dna_links.specs.Sending.{Sent, sent_as}
-use Rattle.dna_links.specs.Arriving.{of_partner}
-use Rattle.dna_links.specs.TrueSegments.{TrueSegments, Numbers, true_segments}
+use Rattle.dna_queues.proofs.Prelude.{◌≡◌, inl, inr, Some, List, [], ◌∷◌, Result, Ok, Err, refl, ap, ◌∙◌, subst, slice_get, NspValue, DataSegment}
+use Rattle.dna_queues.proofs.Prelude.{DataAck, LinkRefusal, ActedOn, With, LinkTruth, user_row, sending_row, arrival_row, after, of_none, Sent}
+use Rattle.dna_queues.proofs.Prelude.{sent_as, of_partner, TrueSegments, Numbers, true_segments, IsAnswered, ComesNear, IsActedOn, ArrivesNear}
+use Rattle.dna_queues.proofs.Prelude.{LinkRecord, OfUser, Sends, Keeps, OfNoLink, links_left, next_links, MadeByMachine, AreAnswered, IsNear}
+use Rattle.dna_queues.proofs.Prelude.{AreNear}
 use Rattle.dna_links.specs.TrueLinks as machine
-use Rattle.dna_links.specs.CutSegments.{IsAnswered}
-use Rattle.dna_links.specs.CutLinks.{ComesNear, IsActedOn, ArrivesNear}
-use Rattle.dna_queues.proofs.Facts.{not_both}
-use Rattle.dna_queues.specs.Records.{LinkRecord, OfUser, Sends, Keeps, OfNoLink, links_left, next_links, MadeByMachine, AreAnswered, IsNear, AreNear}
-use Rattle.dna_queues.proofs.Goes.{Link}
+use Rattle.dna_queues.proofs.{Facts.not_both, Goes.Link, LinkLists.there_too}
 use Rattle.dna_queues.proofs.Gone.{IsGone, AreSameOrGone, Alike, gone_fails, after_alike, ResultsAlike, goes_alike, row_alike}
-use Rattle.dna_queues.proofs.LinkLists.{there_too}
 
 -- ---- every record
 

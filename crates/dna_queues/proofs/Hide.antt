@@ -1,27 +1,11 @@
 -- A link of the machine as the node with queues has it, and the messages that it composes then.
-use Rattle.std.proofs.Common.{◌≡◌, ℕ, true, false, Some, Result, Ok, Err, refl, sym, ap, ◌∙◌, subst}
-use Rattle.std.specs.Prelude.{slice_get}
-use Rattle.dna_packet.specs.Nsp.{NspValue, DataSegment, LinkService, DataAck, OtherDataAck, ConnectAck, ConnectInitiate}
-use Rattle.dna_packet.specs.Nsp.{ConnectConfirm, DisconnectInitiate}
-use Rattle.dna_station.specs.declared.link_refusal.LinkRefusal.{LinkRefusal}
-use Rattle.dna_station.specs.declared.link_refusal.LinkRefusal.TheVariants.{NoLink, LinkState}
-use Rattle.dna_links.specs.declared.port.Phase.{Phase}
-use Rattle.dna_links.specs.declared.port.Phase.TheVariants.{Calling, Confirming, Running, Disconnecting}
-use Rattle.dna_links.specs.declared.port.Port.{Port}
-use Rattle.dna_links.specs.declared.port.LinkTest.{LinkTest}
-use Rattle.dna_links.specs.declared.port.LinkTest.TheVariants.{TheLink, OpenedAt}
-use Rattle.dna_links.specs.declared.queue.Queues.TheVariants.{Without, With}
-use Rattle.dna_links.specs.LookUps.{passes, is_in, is_called}
-use Rattle.dna_links.specs.SegmentBook.{Sending, Late}
-use Rattle.dna_links.specs.Links.{LinkOf, check, with_link, changed, with_segments}
-use Rattle.dna_links.specs.Queues.{in_use, fresh}
-use Rattle.dna_links.specs.LinkBook.{on_ok}
-use Rattle.dna_links.specs.inner.Forms.{truth_of, unchanged}
-use Rattle.dna_links.specs.Sending.{Sent, message_sent}
-use Rattle.dna_links.specs.TrueSegments.{TrueSegments, Numbers}
-use Rattle.dna_links.proofs.Tables.Outcomes.{IsFound}
+use Rattle.dna_queues.proofs.Prelude.{◌≡◌, ℕ, true, false, Some, Result, Ok, Err, refl, sym, ap, ◌∙◌, subst, slice_get, NspValue, DataSegment}
+use Rattle.dna_queues.proofs.Prelude.{LinkService, DataAck, OtherDataAck, ConnectAck, ConnectInitiate, ConnectConfirm, DisconnectInitiate}
+use Rattle.dna_queues.proofs.Prelude.{LinkRefusal, NoLink, LinkState, Phase, Calling, Confirming, Running, Disconnecting, Port, LinkTest, TheLink}
+use Rattle.dna_queues.proofs.Prelude.{OpenedAt, Without, With, passes, is_in, is_called, Sending, Late, LinkOf, check, with_link, changed}
+use Rattle.dna_queues.proofs.Prelude.{with_segments, in_use, fresh, on_ok, truth_of, unchanged, Sent, message_sent, TrueSegments, Numbers, IsFound}
+use Rattle.dna_queues.proofs.Prelude.{LateSegments, late_segments, late_sent, acks_sent, Links}
 use Rattle.dna_queues.proofs.Facts.{passed_check}
-use Rattle.dna_queues.specs.Hidden.{LateSegments, late_segments, late_sent, acks_sent, Links}
 use Rattle.dna_queues.proofs.Goes.{Link, phase_of, Goes, node_port, uncalled_use}
 use Rattle.dna_queues.proofs.LinkLists.{still_set, IsUnique, IsSet, set_changed, found_one, at_found}
 use Rattle.dna_queues.proofs.Sending.{Owns, link_owns, opened_owns}

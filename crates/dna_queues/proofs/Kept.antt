@@ -1,42 +1,21 @@
 -- What is kept waits: the machine acts on it, and follows the node as before.
-use Rattle.std.proofs.Common.{◌≡◌, ℕ, Bool, true, false, ◌&&◌, ◌==◌, cond, Option, Some, None, List, [], ◌∷◌, ◌++◌}
-use Rattle.std.proofs.Common.{Result, Ok, refl, sym, ap, ap₂, ◌∙◌, subst, arith, append-nil}
-use Rattle.std.specs.Prelude.{slice_get}
-use Rattle.std.proofs.lemmas.Bool.{and_parts}
-use Rattle.std.proofs.lemmas.Option.{same_Some}
-use Rattle.dna_packet.specs.Nsp.{NspValue, DataSegment, DataAck}
-use Rattle.dna_station.specs.declared.link_refusal.LinkRefusal.{LinkRefusal}
-use Rattle.dna_station.specs.declared.link_refusal.LinkRefusal.TheVariants.{WrongNode, CrossedLink}
-use Rattle.dna_links.specs.declared.port.Port.{Port}
-use Rattle.dna_links.specs.declared.port.LinkTest.TheVariants.{ActedOn}
-use Rattle.dna_links.specs.declared.queue.Queues.TheVariants.{Without, With}
-use Rattle.dna_links.specs.LookUps.{passes, is_at, is_connected, has_both}
-use Rattle.dna_links.specs.Links.{check, with_link, LinkTruth}
-use Rattle.dna_links.specs.LinkBook.{are_same}
-use Rattle.dna_links.specs.Arriving.{of_partner, is_of_pair, arrived_step, message_arrived}
-use Rattle.dna_links.specs.CutSegments.{IsAnswered, AcksAreNear}
-use Rattle.dna_links.specs.CutLinks.{ArrivesNear}
-use Rattle.dna_links.specs.TrueSegments.{Numbers, true_segments}
+use Rattle.dna_queues.proofs.Prelude.{◌≡◌, ℕ, Bool, true, false, ◌&&◌, ◌==◌, cond, Option, Some, None, List, [], ◌∷◌, ◌++◌, Result, Ok, refl, sym}
+use Rattle.dna_queues.proofs.Prelude.{ap, ap₂, ◌∙◌, subst, arith, append-nil, slice_get, and_parts, same_Some, NspValue, DataSegment, DataAck}
+use Rattle.dna_queues.proofs.Prelude.{LinkRefusal, WrongNode, CrossedLink, Port, ActedOn, Without, With, passes, is_at, is_connected, has_both}
+use Rattle.dna_queues.proofs.Prelude.{check, with_link, LinkTruth, are_same, of_partner, is_of_pair, arrived_step, message_arrived, IsAnswered}
+use Rattle.dna_queues.proofs.Prelude.{AcksAreNear, ArrivesNear, Numbers, true_segments, SentMessage, looked, checked, AreAnswered}
+use Rattle.dna_queues.proofs.Prelude.{late_segments, Links, Node, dstaddr, link_it_is_for, link_it_is_of, waiting, ComesTo, AllActed}
+use Rattle.dna_queues.proofs.Prelude.{Next}
 use Rattle.dna_links.specs.TrueLinks as machine
-use Rattle.dna_links.specs.Runs.{SentMessage}
-use Rattle.dna_links.proofs.Tables.Outcomes.{looked, checked}
-use Rattle.dna_queues.proofs.Facts.{passed_check}
-use Rattle.dna_queues.specs.Records.{AreAnswered, links_left, next_links}
+use Rattle.dna_queues.proofs.{Facts.passed_check, Goes.Link, Goes.Grows, WaitsToGo.can_grow, Ahead.Ahead, Ahead.takes_numbers, CameOn.came_on}
+use Rattle.dna_queues.proofs.{CameOn.ahead_push, Follows.Follows, Follows.is_behind, Lists.waiting_push, Waiting.for_push, SentOn.grows_on}
+use Rattle.dna_queues.proofs.{SentOn.Follow}
 use Rattle.dna_queues.specs.Records as records
-use Rattle.dna_queues.specs.Hidden.{late_segments, Links, Node, dstaddr, link_it_is_for, link_it_is_of, waiting, ComesTo, AllActed, Next}
-use Rattle.dna_queues.proofs.Goes.{Link, Grows}
-use Rattle.dna_queues.proofs.WaitsToGo.{can_grow}
-use Rattle.dna_queues.proofs.Ahead.{Ahead, takes_numbers}
 use Rattle.dna_queues.proofs.Came.{ComesOn, came_as, came}
-use Rattle.dna_queues.proofs.CameOn.{came_on, ahead_push}
 use Rattle.dna_queues.proofs.Acting.{LateLink, lift, seen_as}
-use Rattle.dna_queues.proofs.Follows.{Follows, is_behind}
-use Rattle.dna_queues.proofs.Lists.{waiting_push}
 use Rattle.dna_queues.proofs.LinkLists.{IsUnique, none_passes, changed_each}
 use Rattle.dna_queues.proofs.MachineArrivals.{Alike, MachineActs, machine_acts}
-use Rattle.dna_queues.proofs.Waiting.{for_push}
 use Rattle.dna_queues.proofs.Beside.{Beside, unique_too, follows_as, acts_beside}
-use Rattle.dna_queues.proofs.SentOn.{grows_on, Follow}
 
 -- ---- what all would come to
 

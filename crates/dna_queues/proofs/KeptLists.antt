@@ -1,17 +1,10 @@
 -- Lists of links of which one changes, and what waits for a link when more comes.
-use Rattle.std.proofs.Common.{◌≡◌, ℕ, zero, suc, Bool, true, false, cond, Option, Some, None, List, [], ◌∷◌, ◌++◌, length}
-use Rattle.std.proofs.Common.{refl, sym, ap, ap₂, ◌∙◌, eqb-true, arith}
-use Rattle.std.specs.Prelude.{slice_get}
-use Rattle.std.proofs.lemmas.Option.{same_Some}
-use Rattle.dna_links.specs.LookUps.{is_live, is_at}
-use Rattle.dna_links.specs.Links.{LinksOf, LinkOf}
-use Rattle.dna_links.specs.LinkBook.{are_same}
-use Rattle.dna_links.specs.Runs.{SentMessage}
-use Rattle.dna_queues.specs.Hidden.{Takes, First, Behind, waiting, link_it_is_for}
-use Rattle.dna_queues.proofs.Goes.{Link}
+use Rattle.dna_queues.proofs.Prelude.{◌≡◌, ℕ, zero, suc, Bool, true, false, cond, Option, Some, None, List, [], ◌∷◌, ◌++◌, length, refl, sym, ap}
+use Rattle.dna_queues.proofs.Prelude.{ap₂, ◌∙◌, eqb-true, arith, slice_get, same_Some, is_live, is_at, LinksOf, LinkOf, are_same, SentMessage}
+use Rattle.dna_queues.proofs.Prelude.{Takes, First, Behind, waiting, link_it_is_for}
+use Rattle.dna_queues.proofs.{Goes.Link, Facts.by_option, Facts.by_test}
 use Rattle.dna_queues.proofs.LinkLists.{IsUnique, IsSet, IsChanged}
 use Rattle.dna_queues.proofs.Timed.{Awaits, EndsFirst, AreKept, IsKept}
-use Rattle.dna_queues.proofs.Facts.{by_option, by_test}
 
 -- one that changes at most the link with this address, of links that have it at most once
 none_too : {X Y : Type 0} (xs : List X) (ys : List Y) (i : ℕ) → length ys ≡ length xs → slice_get xs i ≡ None → slice_get ys i ≡ None

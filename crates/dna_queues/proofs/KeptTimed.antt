@@ -1,46 +1,22 @@
 -- A packet that the machine acts on: the node with queues acts on it at once, but where it ends its link, or that has ended.
-use Rattle.std.proofs.Common.{◌≡◌, ℕ, Bool, true, false, ◌&&◌, ◌==◌, cond, Option, Some, None, List, [], ◌∷◌, ◌++◌}
-use Rattle.std.proofs.Common.{Ok, refl, sym, ap, ap₂, ◌∙◌, subst, append-nil}
-use Rattle.std.specs.Prelude.{slice_get}
-use Rattle.std.proofs.lemmas.Option.{same_Some}
-use Rattle.dna_station.specs.declared.link_refusal.LinkRefusal.TheVariants.{WrongNode}
-use Rattle.dna_links.specs.declared.port.Phase.{Phase}
-use Rattle.dna_links.specs.declared.port.Phase.TheVariants.{Called, Ended}
-use Rattle.dna_links.specs.declared.port.Port.{Port}
-use Rattle.dna_links.specs.declared.port.LinkTest.TheVariants.{HasAddress}
-use Rattle.dna_links.specs.declared.queue.Queues.TheVariants.{Without, With}
-use Rattle.dna_links.specs.LookUps.{passes, is_live, is_called, is_at}
-use Rattle.dna_links.specs.LinkBook.{are_same}
-use Rattle.dna_links.specs.Queues.{in_use, port_of_waiting}
-use Rattle.dna_links.specs.Arriving.{of_partner, message_arrived}
-use Rattle.dna_links.specs.TrueSegments.{TrueSegments, true_segments}
+use Rattle.dna_queues.proofs.Prelude.{◌≡◌, ℕ, Bool, true, false, ◌&&◌, ◌==◌, cond, Option, Some, None, List, [], ◌∷◌, ◌++◌, Ok, refl, sym, ap, ap₂}
+use Rattle.dna_queues.proofs.Prelude.{◌∙◌, subst, append-nil, slice_get, same_Some, WrongNode, Phase, Called, Ended, Port, HasAddress, Without}
+use Rattle.dna_queues.proofs.Prelude.{With, passes, is_live, is_called, is_at, are_same, in_use, port_of_waiting, of_partner, message_arrived}
+use Rattle.dna_queues.proofs.Prelude.{TrueSegments, true_segments, SentMessage, looked, LinkRecord, Keeps, late_segments, Node, Acts, dstaddr}
+use Rattle.dna_queues.proofs.Prelude.{waiting, link_it_is_for, MakesStep, KeepsForLink, MadeByHidden, Hides, Makes, false_from_ne_true}
 use Rattle.dna_links.specs.TrueLinks as machine
-use Rattle.dna_links.specs.Runs.{SentMessage}
-use Rattle.dna_links.proofs.Tables.Outcomes.{looked}
-use Rattle.dna_queues.proofs.Facts.{passed_check, by_test}
-use Rattle.dna_queues.specs.Records.{LinkRecord, Keeps}
-use Rattle.dna_queues.specs.Hidden.{late_segments, Node, Acts, dstaddr, waiting, link_it_is_for}
-use Rattle.dna_queues.specs.Made.{MakesStep, KeepsForLink, MadeByHidden, Hides, Makes}
+use Rattle.dna_queues.proofs.{Facts.passed_check, Facts.by_test, Came.ended_link, Came.came_as, Acting.acts_as, Lists.waiting_push}
+use Rattle.dna_queues.proofs.{Delivered.given_user, Early.CanGo, Moved.moved, Moved.gone_before, Starts.started_before, Hide.LateLink, Hide.hide}
+use Rattle.dna_queues.proofs.{SentTimed.Sound, Addressed.awaits_nothing}
 use Rattle.dna_queues.proofs.Goes.{Link, phase_of, test_of, node_port, at_node_same}
-use Rattle.dna_queues.proofs.Came.{ended_link, came_as}
-use Rattle.dna_queues.proofs.Acting.{acts_as}
-use Rattle.dna_queues.proofs.Lists.{waiting_push}
 use Rattle.dna_queues.proofs.LinkLists.{still_set, IsUnique, IsSet, none_passes}
-use Rattle.dna_queues.proofs.Delivered.{given_user}
 use Rattle.dna_queues.proofs.Turns.{Sane, Began, CanWait, live_use, live_waits, live_node}
-use Rattle.dna_queues.proofs.Early.{CanGo}
-use Rattle.dna_queues.proofs.Moved.{moved, gone_before}
-use Rattle.dna_queues.proofs.Starts.{started_before}
-use Rattle.dna_queues.proofs.Hide.{LateLink, hide}
 use Rattle.dna_queues.proofs.Dues.{put_packets, Due, put, put_here, Went, went_node, IsDue, AreSane}
 use Rattle.dna_queues.proofs.Timed.{Awaits, is_end, AreKept, Timed, unique_hidden}
 use Rattle.dna_queues.proofs.Prepared.{prepare_set, set_timed, set_sane}
-use Rattle.dna_queues.proofs.SentTimed.{Sound}
-use Rattle.dna_queues.proofs.Addressed.{awaits_nothing}
 use Rattle.dna_queues.proofs.Arrives.{Arrives, arrives_both, CameTo, Still, GoesOn, IsOver, came_kind, came_dead}
 use Rattle.dna_queues.proofs.KeptLists.{set_of_changed, same_lists, takes_last, at_is, kept_push, awaits_push}
 use Rattle.dna_queues.proofs.AllTimed.{all_come, all_seen, all_may}
-use Rattle.std.proofs.lemmas.Bool.{false_from_ne_true}
 
 module _ (s : machine.Links) (sane : AreSane s) (unit : SentMessage) (address : ℕ) (is : dstaddr unit.packet.message ≡ Some address)
     (may : (unit.packet.src == s.peer && unit.packet.dst == s.node) ≡ true) (left : machine.Links)

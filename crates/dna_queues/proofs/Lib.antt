@@ -1,3 +1,5 @@
+-- the words that all other files share
+mod Prelude
 mod Facts
 mod Words
 mod Segments

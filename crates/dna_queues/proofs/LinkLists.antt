@@ -1,19 +1,10 @@
 -- Links of which at most one has an own address: what a row does by such an address it does to that link alone.
-use Rattle.std.proofs.Common.{◌≡◌, ℕ, zero, suc, Bool, true, false, cond, ◌⊎◌, inl, inr, Option, Some, None, List, [], ◌∷◌, length, map}
-use Rattle.std.proofs.Common.{refl, sym, ap, ap₂, ◌∙◌, arith, position, length-set, subst, ◌++◌}
-use Rattle.std.specs.Prelude.{slice_get, slice_set}
-use Rattle.std.proofs.lemmas.Bool.{cases_eq}
-use Rattle.std.proofs.lemmas.Option.{same_Some, slice_get_within}
-use Rattle.dna_links.specs.declared.port.Port.{Port}
-use Rattle.dna_links.specs.declared.port.LinkTest.{LinkTest}
-use Rattle.dna_links.specs.LookUps.{passes, is_at}
-use Rattle.dna_links.specs.Links.{LinkOf, LinksOf, number_of, on_link, at_number, with_link, changed}
-use Rattle.dna_links.proofs.Tables.Outcomes.{IsFound, position_passes, position_within, position_none}
-use Rattle.dna_links.proofs.Runs.Sides.{set_same, set_other}
-use Rattle.dna_links.proofs.Runs.Owners.{there_is}
-use Rattle.dna_links.proofs.Cut.LookUps.{position-map}
+use Rattle.dna_queues.proofs.Prelude.{◌≡◌, ℕ, zero, suc, Bool, true, false, cond, ◌⊎◌, inl, inr, Option, Some, None, List, [], ◌∷◌, length, map}
+use Rattle.dna_queues.proofs.Prelude.{refl, sym, ap, ap₂, ◌∙◌, arith, position, length-set, subst, ◌++◌, slice_get, slice_set, cases_eq, same_Some}
+use Rattle.dna_queues.proofs.Prelude.{slice_get_within, Port, LinkTest, passes, is_at, LinkOf, LinksOf, number_of, on_link, at_number, with_link}
+use Rattle.dna_queues.proofs.Prelude.{changed, IsFound, position_passes, position_within, position_none, set_same, set_other, there_is}
+use Rattle.dna_queues.proofs.Prelude.{position-map, at_pushed}
 use Rattle.dna_queues.proofs.Facts.{by_test, by_option, not_both}
-use Rattle.two_nodes.proofs.NumberedSteps.{at_pushed}
 
 pub there_too : {X Y : Type 0} (xs : List X) (ys : List Y) (i : ℕ) (y : Y) → length xs ≡ length ys → slice_get ys i ≡ Some y →
     (x : X) × (slice_get xs i ≡ Some x)

@@ -1,8 +1,6 @@
 -- What waits at a link, when some of it is taken away or more comes.
-use Rattle.std.proofs.Common.{◌≡◌, ℕ, Bool, true, false, ◌==◌, cond, Option, Some, None, List, [], ◌∷◌, ◌++◌, refl, sym, ap, ◌∙◌, eqb-true}
-use Rattle.dna_links.specs.LinkBook.{are_same}
-use Rattle.dna_links.specs.Runs.{SentMessage}
-use Rattle.dna_queues.specs.Hidden.{waiting, Takes, First, Behind}
+use Rattle.dna_queues.proofs.Prelude.{◌≡◌, ℕ, Bool, true, false, ◌==◌, cond, Option, Some, None, List, [], ◌∷◌, ◌++◌, refl, sym, ap, ◌∙◌, eqb-true}
+use Rattle.dna_queues.proofs.Prelude.{are_same, SentMessage, waiting, Takes, First, Behind}
 
 module _ (link_of : SentMessage → Option ℕ) where
   pub waiting_same : (unit : SentMessage) (units : List SentMessage) (link : Option ℕ) → are_same (link_of unit) link ≡ true →

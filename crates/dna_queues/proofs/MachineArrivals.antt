@@ -1,25 +1,13 @@
 -- A packet that is kept, acted on by the machine: it changes the link with that address, as what all would come to has it.
-use Rattle.std.proofs.Common.{◌≡◌, ℕ, Bool, true, false, ◌||◌, cond, Option, Some, length, Result, Ok, refl, sym, ap, ◌∙◌, subst}
-use Rattle.std.specs.Prelude.{slice_get}
-use Rattle.std.proofs.lemmas.Bool.{and_parts}
-use Rattle.std.proofs.lemmas.Option.{same_Some}
-use Rattle.dna_packet.specs.Nsp.{NspValue, DataSegment, LinkService, DataAck, OtherDataAck, ConnectConfirm, DisconnectInitiate, DisconnectConfirm}
-use Rattle.dna_station.specs.declared.link_refusal.LinkRefusal.{LinkRefusal}
-use Rattle.dna_station.specs.declared.link_refusal.LinkRefusal.TheVariants.{CrossedLink}
-use Rattle.dna_links.specs.declared.port.Phase.TheVariants.{Calling, Running}
-use Rattle.dna_links.specs.declared.port.Port.{Port}
-use Rattle.dna_links.specs.declared.port.LinkTest.{LinkTest}
-use Rattle.dna_links.specs.declared.port.LinkTest.TheVariants.{TheLink, CallingAt, ActedOn}
-use Rattle.dna_links.specs.declared.queue.Queues.TheVariants.{Without, With}
-use Rattle.dna_links.specs.LookUps.{passes, is_in, is_live, is_at, is_connected, has_both}
-use Rattle.dna_links.specs.Links.{LinkTruth, check, number_of, with_link, changed, with_segments}
-use Rattle.dna_links.specs.Queues.{goes_on, ends_by_message, keeps_numbers}
-use Rattle.dna_links.specs.Arriving.{of_partner, is_for, is_of_pair, message_arrived}
-use Rattle.dna_links.specs.TrueSegments.{TrueSegments, Numbers, takes_segment, takes_acks, true_segments}
+use Rattle.dna_queues.proofs.Prelude.{◌≡◌, ℕ, Bool, true, false, ◌||◌, cond, Option, Some, length, Result, Ok, refl, sym, ap, ◌∙◌, subst, slice_get}
+use Rattle.dna_queues.proofs.Prelude.{and_parts, same_Some, NspValue, DataSegment, LinkService, DataAck, OtherDataAck, ConnectConfirm}
+use Rattle.dna_queues.proofs.Prelude.{DisconnectInitiate, DisconnectConfirm, LinkRefusal, CrossedLink, Calling, Running, Port, LinkTest, TheLink}
+use Rattle.dna_queues.proofs.Prelude.{CallingAt, ActedOn, Without, With, passes, is_in, is_live, is_at, is_connected, has_both, LinkTruth, check}
+use Rattle.dna_queues.proofs.Prelude.{number_of, with_link, changed, with_segments, goes_on, ends_by_message, keeps_numbers, of_partner, is_for}
+use Rattle.dna_queues.proofs.Prelude.{is_of_pair, message_arrived, TrueSegments, Numbers, takes_segment, takes_acks, true_segments, IsFound}
+use Rattle.dna_queues.proofs.Prelude.{checked, late_segments, Links, dstaddr}
 use Rattle.dna_links.specs.TrueLinks as machine
-use Rattle.dna_links.proofs.Tables.Outcomes.{IsFound, checked}
 use Rattle.dna_queues.proofs.Facts.{calling_live, connected_live, lets_still}
-use Rattle.dna_queues.specs.Hidden.{late_segments, Links, dstaddr}
 use Rattle.dna_queues.proofs.Goes.{Link}
 use Rattle.dna_queues.proofs.Came.{confirmed_link, ended_link, run_link, came_as}
 use Rattle.dna_queues.proofs.Acting.{LateLink, confirmed_late, run_late}

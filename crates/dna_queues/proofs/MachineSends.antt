@@ -1,35 +1,16 @@
 -- What the machine sends of a link that link may send.
-use Rattle.std.proofs.Common.{◌≡◌, ℕ, Bool, true, ◌&&◌, not, Option, Some, None, List, Result, Ok, Err, refl, sym, ap, ◌∙◌, subst, position}
-use Rattle.std.specs.Prelude.{slice_get}
-use Rattle.std.proofs.lemmas.Bool.{and_parts}
-use Rattle.dna_packet.specs.declared.ack_word.AckWord.{AckWord}
-use Rattle.dna_packet.specs.Nsp.{SegmentValue, NspValue, DataSegment, LinkService, DataAck, OtherDataAck, ConnectAck, ConnectInitiate}
-use Rattle.dna_packet.specs.Nsp.{ConnectConfirm, DisconnectInitiate}
-use Rattle.dna_station.specs.declared.link_refusal.LinkRefusal.{LinkRefusal}
-use Rattle.dna_station.specs.declared.link_refusal.LinkRefusal.TheVariants.{NoLink, LinkState}
-use Rattle.dna_links.specs.declared.port.Phase.{Phase}
-use Rattle.dna_links.specs.declared.port.Phase.TheVariants.{Calling, Confirming, Running, Disconnecting}
-use Rattle.dna_links.specs.declared.port.Port.{Port}
-use Rattle.dna_links.specs.declared.port.LinkTest.{LinkTest}
-use Rattle.dna_links.specs.declared.port.LinkTest.TheVariants.{LiveAt, TheLink, OpenedAt, BegunBy}
-use Rattle.dna_links.specs.declared.queue.Queues.TheVariants.{With}
-use Rattle.dna_links.specs.declared.queue.Said.{Said}
-use Rattle.dna_links.specs.declared.queue.Said.TheVariants.{OfRun, Disconnect}
-use Rattle.dna_links.specs.LookUps.{passes, is_live, is_at, has_both}
-use Rattle.dna_links.specs.Links.{check, on_link, at_number, with_seen, changed}
-use Rattle.dna_links.specs.Queues.{in_use, with_in_use, may_send, shows}
-use Rattle.dna_links.specs.inner.Forms.{of_no_link, truth_of, unchanged}
-use Rattle.dna_links.specs.Sending.{Sent, message_sent}
-use Rattle.dna_links.specs.TrueSegments.{TrueSegments, Numbers, sends_late, sends_acks, sends_other, true_segments}
+use Rattle.dna_queues.proofs.Prelude.{◌≡◌, ℕ, Bool, true, ◌&&◌, not, Option, Some, None, List, Result, Ok, Err, refl, sym, ap, ◌∙◌, subst, position}
+use Rattle.dna_queues.proofs.Prelude.{slice_get, and_parts, AckWord, SegmentValue, NspValue, DataSegment, LinkService, DataAck, OtherDataAck}
+use Rattle.dna_queues.proofs.Prelude.{ConnectAck, ConnectInitiate, ConnectConfirm, DisconnectInitiate, LinkRefusal, NoLink, LinkState, Phase}
+use Rattle.dna_queues.proofs.Prelude.{Calling, Confirming, Running, Disconnecting, Port, LinkTest, LiveAt, TheLink, OpenedAt, BegunBy, With, Said}
+use Rattle.dna_queues.proofs.Prelude.{OfRun, Disconnect, passes, is_live, is_at, has_both, check, on_link, at_number, with_seen, changed, in_use}
+use Rattle.dna_queues.proofs.Prelude.{with_in_use, may_send, shows, of_no_link, truth_of, unchanged, Sent, message_sent, TrueSegments, Numbers}
+use Rattle.dna_queues.proofs.Prelude.{sends_late, sends_acks, sends_other, true_segments, looked, checked, position_passes, position_within}
+use Rattle.dna_queues.proofs.Prelude.{there_is, is_composed}
 use Rattle.dna_links.specs.TrueLinks.{Links}
-use Rattle.dna_links.proofs.Tables.Outcomes.{looked, checked, position_passes, position_within}
-use Rattle.dna_links.proofs.Runs.Owners.{there_is}
-use Rattle.dna_queues.specs.Hidden.{is_composed}
 use Rattle.dna_queues.proofs.Goes.{Link, Goes, said_as, late_link, wide_link}
-use Rattle.dna_queues.proofs.Sending.{shows_is}
+use Rattle.dna_queues.proofs.{Sending.shows_is, Turns.Sane, Turns.live_use, Facts.same_links, Facts.was_ok}
 use Rattle.dna_queues.proofs.LinkLists.{still_set, IsSet, set_changed}
-use Rattle.dna_queues.proofs.Turns.{Sane, live_use}
-use Rattle.dna_queues.proofs.Facts.{same_links, was_ok}
 
 -- all but a DC and a no operation is of a link
 abbrev pub is_of_link : NspValue → Bool

@@ -1,19 +1,9 @@
 -- A link at which a message is handed in, or delivered.
-use Rattle.std.proofs.Common.{◌≡◌, ℕ, ◌+◌, Option, None, List, sym, ap, ◌∙◌, subst, arith}
-use Rattle.dna_links.specs.Segmentation.{Piece, in_order}
-use Rattle.dna_links.specs.Links.{with_segments}
-use Rattle.dna_links.specs.CutSegments.{IsAnswered}
-use Rattle.dna_links.specs.TrueSegments.{TrueSegments}
-use Rattle.dna_links.specs.Runs.{SentMessage}
-use Rattle.dna_queues.specs.Hidden.{over}
-use Rattle.dna_queues.proofs.Pieces.{Below}
-use Rattle.dna_queues.proofs.Words.{added, Grown}
-use Rattle.dna_queues.proofs.Goes.{Link, Grows}
-use Rattle.dna_queues.proofs.WaitsToGo.{can_grow}
+use Rattle.dna_queues.proofs.Prelude.{◌≡◌, ℕ, ◌+◌, Option, None, List, sym, ap, ◌∙◌, subst, arith, Piece, in_order, with_segments, IsAnswered}
+use Rattle.dna_queues.proofs.Prelude.{TrueSegments, SentMessage, over}
+use Rattle.dna_queues.proofs.{Pieces.Below, Words.added, Words.Grown, Goes.Link, Goes.Grows, WaitsToGo.can_grow, Follows.Follows, SentOn.grows_on}
 use Rattle.dna_queues.proofs.Ahead.{Seen, Ahead, ahead_still}
 use Rattle.dna_queues.proofs.Acting.{LateLink, lift, seen_as}
-use Rattle.dna_queues.proofs.Follows.{Follows}
-use Rattle.dna_queues.proofs.SentOn.{grows_on}
 
 -- ---- a link of which only the messages change
 

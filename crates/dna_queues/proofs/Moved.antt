@@ -1,22 +1,11 @@
 -- What a link of the machine can send once its phase is past it could send before, and what is left then differs by the same.
-use Rattle.std.proofs.Common.{◌≡◌, ℕ, true, ◌||◌, Option, is_none, List, [], ◌∷◌, refl, sym, ap, ◌∙◌, subst}
-use Rattle.dna_packet.specs.Nsp.{NspValue, DataSegment, LinkService, DataAck, OtherDataAck, ConnectAck, NoOperation}
-use Rattle.dna_packet.specs.Nsp.{DisconnectInitiate, DisconnectConfirm}
-use Rattle.dna_links.specs.declared.port.Phase.{Phase}
-use Rattle.dna_links.specs.declared.port.Port.{Port}
-use Rattle.dna_links.specs.declared.queue.Queues.TheVariants.{With}
-use Rattle.dna_links.specs.declared.queue.Said.TheVariants.{OfRun}
-use Rattle.dna_links.specs.LookUps.{passes}
+use Rattle.dna_queues.proofs.Prelude.{◌≡◌, ℕ, true, ◌||◌, Option, is_none, List, [], ◌∷◌, refl, sym, ap, ◌∙◌, subst, NspValue, DataSegment}
+use Rattle.dna_queues.proofs.Prelude.{LinkService, DataAck, OtherDataAck, ConnectAck, NoOperation, DisconnectInitiate, DisconnectConfirm, Phase}
+use Rattle.dna_queues.proofs.Prelude.{Port, With, OfRun, passes, Carried, in_use, port_of_waiting, TrueSegments, or_right}
 use Rattle.dna_links.specs.LookUps as look
-use Rattle.dna_links.specs.Links.{Carried}
-use Rattle.dna_links.specs.Queues.{in_use, port_of_waiting}
-use Rattle.dna_links.specs.TrueSegments.{TrueSegments}
 use Rattle.dna_queues.proofs.Goes.{Link, test_of, Goes, Moves, said_as, late_link, wide_link}
 use Rattle.dna_queues.proofs.Delivered.{Leaves, given_user, sending_of, late_of, late_still, acks_still}
-use Rattle.dna_queues.proofs.Shapes.{goes_shape}
-use Rattle.dna_queues.proofs.Turns.{asks, is_past}
-use Rattle.dna_queues.proofs.Early.{CanGo, AreEarly}
-use Rattle.std.proofs.lemmas.Bool.{or_right}
+use Rattle.dna_queues.proofs.{Shapes.goes_shape, Turns.asks, Turns.is_past, Early.CanGo, Early.AreEarly}
 
 pub may_be : (now : Phase) (packet : Carried) (packets : List Carried) → AreEarly now (packet ∷ packets) →
     ((is_none (asks packet.message) || is_past (asks packet.message) now) ≡ true) × AreEarly now packets

@@ -1,23 +1,13 @@
 -- What waits for links that have ended in the machine is acted on: first what ended each, and then nothing more happens to it.
-use Rattle.std.proofs.Common.{◌≡◌, ℕ, true, false, ◌&&◌, ◌==◌, Option, Some, None, List, [], ◌∷◌, length, Ok, refl, sym, ap, ◌∙◌, subst, eqb-true}
-use Rattle.std.specs.Prelude.{slice_get}
-use Rattle.dna_station.specs.declared.link_refusal.LinkRefusal.TheVariants.{WrongNode}
-use Rattle.dna_links.specs.declared.queue.Queues.TheVariants.{Without}
-use Rattle.dna_links.specs.LookUps.{is_live, is_at}
-use Rattle.dna_links.specs.LinkBook.{are_same}
-use Rattle.dna_links.specs.Arriving.{of_partner, arrived_step, message_arrived}
-use Rattle.dna_links.specs.Runs.{SentMessage}
+use Rattle.dna_queues.proofs.Prelude.{◌≡◌, ℕ, true, false, ◌&&◌, ◌==◌, Option, Some, None, List, [], ◌∷◌, length, Ok, refl, sym, ap, ◌∙◌, subst}
+use Rattle.dna_queues.proofs.Prelude.{eqb-true, slice_get, WrongNode, Without, is_live, is_at, are_same, of_partner, arrived_step, message_arrived}
+use Rattle.dna_queues.proofs.Prelude.{SentMessage, LinkRecord, late_segments, Links, Node, Acts, ComesTo, AllActed, Next, Takes, First, Behind}
+use Rattle.dna_queues.proofs.Prelude.{link_it_is_for, waiting, MadeByHidden, Hides}
 use Rattle.dna_queues.proofs.Facts.{not_both, passed_check, by_test}
-use Rattle.dna_queues.specs.Records.{LinkRecord}
-use Rattle.dna_queues.specs.Hidden.{late_segments, Links, Node, Acts, ComesTo, AllActed, Next, Takes, First, Behind, link_it_is_for, waiting}
-use Rattle.dna_queues.specs.Made.{MadeByHidden, Hides}
-use Rattle.dna_queues.proofs.Acting.{ended_late}
+use Rattle.dna_queues.proofs.{Acting.ended_late, Lists.takes_first, Lists.takes_other, Hide.LateLink, SentTimed.takes_waiting, SentTimed.same_is}
+use Rattle.dna_queues.proofs.{EndsActed.EndsAt, EndsActed.acts_one}
 use Rattle.dna_queues.proofs.LinkLists.{IsUnique, IsChanged, unique_changed, changed_each}
-use Rattle.dna_queues.proofs.Lists.{takes_first, takes_other}
-use Rattle.dna_queues.proofs.Hide.{LateLink}
 use Rattle.dna_queues.proofs.Timed.{is_end, IsKept, AreKept, kept_as}
-use Rattle.dna_queues.proofs.SentTimed.{takes_waiting, same_is}
-use Rattle.dna_queues.proofs.EndsActed.{EndsAt, acts_one}
 
 -- ---- all that waits
 

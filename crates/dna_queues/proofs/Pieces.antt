@@ -1,6 +1,6 @@
 -- Of two lists of pieces that were received, one has what the other has.
-use Rattle.std.proofs.Common.{◌≡◌, ℕ, zero, suc, ◌≤◌, Bool, true, false, cond, Option, Some, None, List, [], ◌∷◌, drop, refl, ap, ◌∙◌, arith}
-use Rattle.dna_links.specs.Segmentation.{Piece, in_order, hold, Whole, with_piece, next_message}
+use Rattle.dna_queues.proofs.Prelude.{◌≡◌, ℕ, zero, suc, ◌≤◌, Bool, true, false, cond, Option, Some, None, List, [], ◌∷◌, drop, refl, ap, ◌∙◌}
+use Rattle.dna_queues.proofs.Prelude.{arith, Piece, in_order, hold, Whole, with_piece, next_message}
 
 abbrev pub Below : List (Option Piece) → List (Option Piece) → Type 0
 Below [] ys = Unit {0}

@@ -1,29 +1,17 @@
 -- What links without queues make a node with queues makes by hidden steps that stand at the records.
-use Rattle.std.proofs.Common.{◌≡◌, ℕ, Bool, true, false, ◌&&◌, ◌==◌, Option, Some, None, List, [], ◌∷◌, ◌++◌, Result, Ok, Err, refl, sym, ap, ◌∙◌}
-use Rattle.std.proofs.Common.{subst, append-nil}
-use Rattle.dna_packet.specs.Nsp.{NspValue, ConnectAck, NoOperation, ConnectInitiate, DisconnectConfirm, IsInRange}
-use Rattle.dna_station.specs.declared.link_refusal.LinkRefusal.{LinkRefusal}
-use Rattle.dna_station.specs.declared.link_refusal.LinkRefusal.TheVariants.{NoLink, WrongNode}
-use Rattle.dna_links.specs.declared.port.LinkTest.TheVariants.{LiveTo, BegunBy}
-use Rattle.dna_links.specs.declared.queue.Queues.TheVariants.{Without}
-use Rattle.dna_links.specs.Links.{Carried, begun}
-use Rattle.dna_links.specs.LinkBook.{on_ok, user_step}
-use Rattle.dna_links.specs.inner.Forms.{unchanged, called}
-use Rattle.dna_links.specs.User.{LinkEventValue, Open, Accept, Reject, Boot}
-use Rattle.dna_links.specs.Sending.{Sent, sent_step, message_sent}
-use Rattle.dna_links.specs.Arriving.{of_partner, arrived_step, message_arrived}
-use Rattle.dna_links.specs.TrueSegments.{TrueSegments, Numbers, true_segments}
+use Rattle.dna_queues.proofs.Prelude.{◌≡◌, ℕ, Bool, true, false, ◌&&◌, ◌==◌, Option, Some, None, List, [], ◌∷◌, ◌++◌, Result, Ok, Err, refl, sym}
+use Rattle.dna_queues.proofs.Prelude.{ap, ◌∙◌, subst, append-nil, NspValue, ConnectAck, NoOperation, ConnectInitiate, DisconnectConfirm, IsInRange}
+use Rattle.dna_queues.proofs.Prelude.{LinkRefusal, NoLink, WrongNode, LiveTo, BegunBy, Without, Carried, begun, on_ok, user_step, unchanged, called}
+use Rattle.dna_queues.proofs.Prelude.{LinkEventValue, Open, Accept, Reject, Boot, Sent, sent_step, message_sent, of_partner, arrived_step}
+use Rattle.dna_queues.proofs.Prelude.{message_arrived, TrueSegments, Numbers, true_segments, SentMessage, looked, checked, LinkRecord, OfUser}
+use Rattle.dna_queues.proofs.Prelude.{Sends, Keeps, OfNoLink, links_left, made_without, AreInRange, LateSegments, late_segments, Links, Node}
+use Rattle.dna_queues.proofs.Prelude.{dstaddr, is_composed, First, Acts, Composes, Acknowledges, AllActed, new_node, IsFree, EndsCall, MakesStep}
+use Rattle.dna_queues.proofs.Prelude.{UserDoes, Boots, SendsComposed, SendsConfirm, SendsNothing, KeepsForLink, KeepsAtOnce, PassesBy, MadeByHidden}
+use Rattle.dna_queues.proofs.Prelude.{NoMore, Hides, Makes}
 use Rattle.dna_links.specs.TrueLinks as plain
-use Rattle.dna_links.specs.Runs.{SentMessage}
-use Rattle.dna_links.proofs.Tables.Outcomes.{looked, checked}
 use Rattle.dna_queues.proofs.Facts.{passed_check, same_Ok, same_links}
-use Rattle.dna_queues.specs.Records.{LinkRecord, OfUser, Sends, Keeps, OfNoLink, links_left, made_without, AreInRange}
-use Rattle.dna_queues.specs.Hidden.{LateSegments, late_segments, Links, Node, dstaddr, is_composed, First, Acts, Composes, Acknowledges, AllActed}
-use Rattle.dna_queues.specs.Made.{new_node, IsFree, EndsCall, MakesStep, UserDoes, Boots, SendsComposed, SendsConfirm, SendsNothing, KeepsForLink}
-use Rattle.dna_queues.specs.Made.{KeepsAtOnce, PassesBy, MadeByHidden, NoMore, Hides, Makes}
-use Rattle.dna_queues.proofs.LinkLists.{at_found, at_none}
+use Rattle.dna_queues.proofs.{LinkLists.at_found, LinkLists.at_none, PlainSteps.message_too, PlainSteps.came_too}
 use Rattle.dna_queues.proofs.Forgotten.{forget_links, begun_forget, there, missing, user_too}
-use Rattle.dna_queues.proofs.PlainSteps.{message_too, came_too}
 
 -- nothing waits
 abbrev quiet : Links → Node

@@ -1,33 +1,17 @@
 -- What links without queues send and take the links of a node with queues for which nothing waits send and take as well.
-use Rattle.std.proofs.Common.{◌≡◌, ℕ, Bool, true, false, ◌==◌, cond, Option, None, List, Result, Ok, Err, refl, ap, ◌∙◌}
-use Rattle.dna_packet.specs.declared.ack_word.AckWord.{AckWord}
-use Rattle.dna_packet.specs.Nsp.{SegmentValue, NspValue, DataSegment, LinkService, DataAck, OtherDataAck, ConnectAck, NoOperation, ConnectInitiate}
-use Rattle.dna_packet.specs.Nsp.{ConnectConfirm, DisconnectInitiate, DisconnectConfirm}
-use Rattle.dna_station.specs.declared.link_refusal.LinkRefusal.{LinkRefusal}
-use Rattle.dna_station.specs.declared.link_refusal.LinkRefusal.TheVariants.{NoLink, LinkState, CrossedLink}
-use Rattle.dna_links.specs.declared.port.Phase.{Phase}
-use Rattle.dna_links.specs.declared.port.Phase.TheVariants.{Calling, Confirming, Running, Disconnecting}
-use Rattle.dna_links.specs.declared.port.LinkTest.{LinkTest}
-use Rattle.dna_links.specs.declared.port.LinkTest.TheVariants.{TheLink, LiveTo, OpenedAt, CallingAt, CalledBy, BegunBy, ActedOn}
-use Rattle.dna_links.specs.declared.queue.Queues.TheVariants.{Without}
-use Rattle.dna_links.specs.LookUps.{is_in}
-use Rattle.dna_links.specs.SegmentBook.{Sending, Late}
-use Rattle.dna_links.specs.Links.{LinkTruth, check, number_of, with_link, begun, changed, with_segments}
-use Rattle.dna_links.specs.LinkBook.{on_ok}
-use Rattle.dna_links.specs.Queues.{ended}
-use Rattle.dna_links.specs.inner.Forms.{of_no_link, truth_of, unchanged, ending, called, confirmed, running}
-use Rattle.dna_links.specs.Sending.{Sent, message_sent}
-use Rattle.dna_links.specs.Arriving.{of_partner, is_for, is_of_pair, message_arrived}
-use Rattle.dna_links.specs.TrueSegments.{TrueSegments, Numbers, sends_segment, sends_acks, takes_segment, takes_acks, true_segments}
+use Rattle.dna_queues.proofs.Prelude.{◌≡◌, ℕ, Bool, true, false, ◌==◌, cond, Option, None, List, Result, Ok, Err, refl, ap, ◌∙◌, AckWord}
+use Rattle.dna_queues.proofs.Prelude.{SegmentValue, NspValue, DataSegment, LinkService, DataAck, OtherDataAck, ConnectAck, NoOperation}
+use Rattle.dna_queues.proofs.Prelude.{ConnectInitiate, ConnectConfirm, DisconnectInitiate, DisconnectConfirm, LinkRefusal, NoLink, LinkState}
+use Rattle.dna_queues.proofs.Prelude.{CrossedLink, Phase, Calling, Confirming, Running, Disconnecting, LinkTest, TheLink, LiveTo, OpenedAt}
+use Rattle.dna_queues.proofs.Prelude.{CallingAt, CalledBy, BegunBy, ActedOn, Without, is_in, Sending, Late, LinkTruth, check, number_of, with_link}
+use Rattle.dna_queues.proofs.Prelude.{begun, changed, with_segments, on_ok, ended, of_no_link, truth_of, unchanged, ending, called, confirmed}
+use Rattle.dna_queues.proofs.Prelude.{running, Sent, message_sent, of_partner, is_for, is_of_pair, message_arrived, TrueSegments, Numbers}
+use Rattle.dna_queues.proofs.Prelude.{sends_segment, sends_acks, takes_segment, takes_acks, true_segments, looked, checked, LateSegments}
+use Rattle.dna_queues.proofs.Prelude.{late_segments, late_sent, acks_sent, over, Links}
 use Rattle.dna_links.specs.TrueLinks as plain
-use Rattle.dna_links.proofs.Tables.Outcomes.{looked, checked}
 use Rattle.dna_queues.proofs.Facts.{passed_check, same_Ok, same_links, was_ok}
-use Rattle.dna_queues.specs.Hidden.{LateSegments, late_segments, late_sent, acks_sent, over, Links}
-use Rattle.dna_queues.proofs.Goes.{Link}
-use Rattle.dna_queues.proofs.Acting.{LateLink}
-use Rattle.dna_queues.proofs.LinkLists.{at_found, at_none}
+use Rattle.dna_queues.proofs.{Goes.Link, Acting.LateLink, LinkLists.at_found, LinkLists.at_none, PlainWords.sends_too}
 use Rattle.dna_queues.proofs.Forgotten.{forget, forget_links, changed_forget, begun_forget, there, missing}
-use Rattle.dna_queues.proofs.PlainWords.{sends_too}
 
 module _ (s : Links) where
   -- ---- what is sent

@@ -1,14 +1,9 @@
 -- Words that a segment may have without queues it may have with them.
-use Rattle.std.proofs.Common.{◌≡◌, ℕ, ◌+◌, ◌-◌, Bool, true, false, not, ◌&&◌, nat_le, max, cond}
-use Rattle.std.proofs.Common.{Option, Some, None, List, [], ◌∷◌, Result, Ok, refl, sym, ap, ◌∙◌}
-use Rattle.dna_packet.specs.declared.ack_word.AckWord.{AckWord}
-use Rattle.dna_packet.specs.Nsp.{SegmentValue}
-use Rattle.dna_station.specs.declared.link_refusal.LinkRefusal.{LinkRefusal}
-use Rattle.dna_links.specs.Segmentation.{piece_of}
-use Rattle.dna_links.specs.SegmentBook.{Sending, Late, with_gap, wider, REACH, wire, distance, is_of_data}
-use Rattle.dna_links.specs.TrueSegments.{TrueSegments, Numbers, Named, NamedLate, highest_received, highest_given, named, named_late, all_named}
-use Rattle.dna_links.specs.TrueSegments.{all_named_late, with_number, with_first, with_number_late, with_first_late, is_new, sends_new, sends_again}
-use Rattle.dna_links.specs.TrueSegments.{segment_named, sends_segment, sends_late, new_late, went_on}
+use Rattle.dna_queues.proofs.Prelude.{◌≡◌, ℕ, ◌+◌, ◌-◌, Bool, true, false, not, ◌&&◌, nat_le, max, cond, Option, Some, None, List, [], ◌∷◌, Result}
+use Rattle.dna_queues.proofs.Prelude.{Ok, refl, sym, ap, ◌∙◌, AckWord, SegmentValue, LinkRefusal, piece_of, Sending, Late, with_gap, wider, REACH}
+use Rattle.dna_queues.proofs.Prelude.{wire, distance, is_of_data, TrueSegments, Numbers, Named, NamedLate, highest_received, highest_given, named}
+use Rattle.dna_queues.proofs.Prelude.{named_late, all_named, all_named_late, with_number, with_first, with_number_late, with_first_late, is_new}
+use Rattle.dna_queues.proofs.Prelude.{sends_new, sends_again, segment_named, sends_segment, sends_late, new_late, went_on}
 
 abbrev with_late : ℕ → Option Named → Option NamedLate
 with_late gap None = None

@@ -1,20 +1,11 @@
 -- Right before a record of a link: what has to be composed in the phase that the record ends is composed.
-use Rattle.std.proofs.Common.{◌≡◌, ℕ, true, false, ◌⊎◌, inl, inr, Option, Some, None, List, [], ◌∷◌, ◌++◌, length}
-use Rattle.std.proofs.Common.{refl, sym, ap, ◌∙◌, subst, append-nil, append_assoc}
-use Rattle.std.specs.Prelude.{slice_get}
-use Rattle.std.proofs.lemmas.Bool.{cases_eq}
-use Rattle.std.proofs.lemmas.Option.{same_Some}
-use Rattle.dna_links.specs.LookUps.{is_at}
-use Rattle.dna_links.specs.Links.{Carried}
+use Rattle.dna_queues.proofs.Prelude.{◌≡◌, ℕ, true, false, ◌⊎◌, inl, inr, Option, Some, None, List, [], ◌∷◌, ◌++◌, length, refl, sym, ap, ◌∙◌}
+use Rattle.dna_queues.proofs.Prelude.{subst, append-nil, append_assoc, slice_get, cases_eq, same_Some, is_at, Carried, LinkRecord, Node, waiting}
+use Rattle.dna_queues.proofs.Prelude.{link_it_is_for, link_it_is_of, MadeByHidden, Hides}
 use Rattle.dna_links.specs.TrueLinks as machine
-use Rattle.dna_queues.specs.Records.{LinkRecord}
-use Rattle.dna_queues.specs.Hidden.{Node, waiting, link_it_is_for, link_it_is_of}
-use Rattle.dna_queues.specs.Made.{MadeByHidden, Hides}
-use Rattle.dna_queues.proofs.Goes.{Link, phase_of}
+use Rattle.dna_queues.proofs.{Goes.Link, Goes.phase_of, Turns.Sane, Hide.hide}
 use Rattle.dna_queues.proofs.LinkLists.{IsSet, set_each, unique_free}
-use Rattle.dna_queues.proofs.Turns.{Sane}
 use Rattle.dna_queues.proofs.Early.{CanGo, ends, AreNow, parts}
-use Rattle.dna_queues.proofs.Hide.{hide}
 use Rattle.dna_queues.proofs.Dues.{Due, put, put_here, put_other, put_twice, IsDue, AreDue, AreSane, went_can}
 use Rattle.dna_queues.proofs.Timed.{Awaits, AreKept, kept_as, packets_of, Timed, timed_as, composes_on}
 

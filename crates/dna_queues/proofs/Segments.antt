@@ -1,19 +1,11 @@
 -- What a link may send of its numbers it may also send where more was received and acknowledged, and more was handed in.
-use Rattle.std.proofs.Common.{◌≡◌, ℕ, ◌+◌, ◌-◌, ◌≤◌, Bool, true, false, ◌&&◌, ◌||◌, not, nat_le, nat_lt, cond, Option, Some, None, List, [], ◌∷◌}
-use Rattle.std.proofs.Common.{◌++◌, length, Result, Ok, Err, refl, sym, ap, ap₂, ◌∙◌, subst, arith, ltb-true}
-use Rattle.std.specs.Prelude.{slice_get}
-use Rattle.std.specs.List.{AllByRecursion}
-use Rattle.dna_packet.specs.declared.ack_word.AckWord.{AckWord}
-use Rattle.dna_packet.specs.AckWord.{IsAckWord}
-use Rattle.dna_packet.specs.Nsp.{SegmentValue}
-use Rattle.dna_station.specs.declared.link_refusal.LinkRefusal.{LinkRefusal}
-use Rattle.dna_station.specs.declared.link_refusal.LinkRefusal.TheVariants.{WrongSegment, WrongAck, SegmentTooLong, LinkWindowFull}
-use Rattle.dna_links.specs.Segmentation.{Piece, piece_of, Unsent, with_message, is_next_piece, without_piece, left_of}
-use Rattle.dna_links.specs.SegmentBook.{Sending, Late, with_gap, wider, REACH, wire, distance}
-use Rattle.dna_links.specs.TrueSegments.{TrueSegments, Numbers, Named, NamedLate, highest_received, highest_given, all_named, all_named_late}
-use Rattle.dna_links.specs.TrueSegments.{is_new, sends_new, sends_again, segment_named, is_repeat}
-use Rattle.dna_links.specs.TrueSegments.{sends_segment, sends_late, sends_acks, acks_named, new_late, went_on, is_given, sending}
-use Rattle.dna_links.proofs.Tables.Outcomes.{checked}
+use Rattle.dna_queues.proofs.Prelude.{◌≡◌, ℕ, ◌+◌, ◌-◌, ◌≤◌, Bool, true, false, ◌&&◌, ◌||◌, not, nat_le, nat_lt, cond, Option, Some, None, List, []}
+use Rattle.dna_queues.proofs.Prelude.{◌∷◌, ◌++◌, length, Result, Ok, Err, refl, sym, ap, ap₂, ◌∙◌, subst, arith, ltb-true, slice_get}
+use Rattle.dna_queues.proofs.Prelude.{AllByRecursion, AckWord, IsAckWord, SegmentValue, LinkRefusal, WrongSegment, WrongAck, SegmentTooLong}
+use Rattle.dna_queues.proofs.Prelude.{LinkWindowFull, Piece, piece_of, Unsent, with_message, is_next_piece, without_piece, left_of, Sending, Late}
+use Rattle.dna_queues.proofs.Prelude.{with_gap, wider, REACH, wire, distance, TrueSegments, Numbers, Named, NamedLate, highest_received}
+use Rattle.dna_queues.proofs.Prelude.{highest_given, all_named, all_named_late, is_new, sends_new, sends_again, segment_named, is_repeat}
+use Rattle.dna_queues.proofs.Prelude.{sends_segment, sends_late, sends_acks, acks_named, new_late, went_on, is_given, sending, checked}
 use Rattle.dna_queues.proofs.Facts.{passed_check}
 use Rattle.dna_queues.proofs.Words.{added, Grown, Carries, names_grow, late_grow}
 

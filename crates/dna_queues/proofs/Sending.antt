@@ -1,31 +1,13 @@
 -- What a link of the machine may send the machine sends.
-use Rattle.std.proofs.Common.{◌≡◌, ℕ, Bool, true, false, ◌&&◌, Option, Some, None, length, Result, Ok, Err, refl, sym, ap, ◌∙◌, subst, position}
-use Rattle.std.specs.Prelude.{slice_get}
-use Rattle.std.proofs.lemmas.Bool.{and_parts}
-use Rattle.std.proofs.lemmas.Option.{same_Some}
-use Rattle.dna_packet.specs.Nsp.{NspValue, DataSegment, LinkService, DataAck, OtherDataAck, ConnectAck, ConnectInitiate}
-use Rattle.dna_packet.specs.Nsp.{ConnectConfirm, DisconnectInitiate}
-use Rattle.dna_station.specs.declared.link_refusal.LinkRefusal.{LinkRefusal}
-use Rattle.dna_station.specs.declared.link_refusal.LinkRefusal.TheVariants.{NoLink, LinkState}
-use Rattle.dna_links.specs.declared.port.Phase.{Phase}
-use Rattle.dna_links.specs.declared.port.Phase.TheVariants.{Calling, Confirming, Running, Disconnecting}
-use Rattle.dna_links.specs.declared.port.Port.{Port}
-use Rattle.dna_links.specs.declared.port.LinkTest.{LinkTest}
-use Rattle.dna_links.specs.declared.port.LinkTest.TheVariants.{LiveAt, TheLink, OpenedAt, BegunBy}
-use Rattle.dna_links.specs.declared.queue.Queues.TheVariants.{With}
-use Rattle.dna_links.specs.declared.queue.Said.{Said}
-use Rattle.dna_links.specs.declared.queue.Said.TheVariants.{OfRun, Disconnect}
-use Rattle.dna_links.specs.LookUps.{passes, is_live, is_at, has_both}
-use Rattle.dna_links.specs.SegmentBook.{Sending, Late}
-use Rattle.dna_links.specs.Links.{check, on_link, at_number, with_seen, changed}
-use Rattle.dna_links.specs.Queues.{in_use, with_in_use, may_send, shows, keeps_numbers}
-use Rattle.dna_links.specs.LinkBook.{on_ok}
-use Rattle.dna_links.specs.inner.Forms.{of_no_link, truth_of, unchanged}
-use Rattle.dna_links.specs.Sending.{Sent, message_sent}
-use Rattle.dna_links.specs.TrueSegments.{TrueSegments, Numbers, sends_other, true_segments}
+use Rattle.dna_queues.proofs.Prelude.{◌≡◌, ℕ, Bool, true, false, ◌&&◌, Option, Some, None, length, Result, Ok, Err, refl, sym, ap, ◌∙◌, subst}
+use Rattle.dna_queues.proofs.Prelude.{position, slice_get, and_parts, same_Some, NspValue, DataSegment, LinkService, DataAck, OtherDataAck}
+use Rattle.dna_queues.proofs.Prelude.{ConnectAck, ConnectInitiate, ConnectConfirm, DisconnectInitiate, LinkRefusal, NoLink, LinkState, Phase}
+use Rattle.dna_queues.proofs.Prelude.{Calling, Confirming, Running, Disconnecting, Port, LinkTest, LiveAt, TheLink, OpenedAt, BegunBy, With, Said}
+use Rattle.dna_queues.proofs.Prelude.{OfRun, Disconnect, passes, is_live, is_at, has_both, Sending, Late, check, on_link, at_number, with_seen}
+use Rattle.dna_queues.proofs.Prelude.{changed, in_use, with_in_use, may_send, shows, keeps_numbers, on_ok, of_no_link, truth_of, unchanged, Sent}
+use Rattle.dna_queues.proofs.Prelude.{message_sent, TrueSegments, Numbers, sends_other, true_segments, looked, position_passes, position_within}
+use Rattle.dna_queues.proofs.Prelude.{position_none, there_is}
 use Rattle.dna_links.specs.TrueLinks.{Links}
-use Rattle.dna_links.proofs.Tables.Outcomes.{looked, position_passes, position_within, position_none}
-use Rattle.dna_links.proofs.Runs.Owners.{there_is}
 use Rattle.dna_queues.proofs.Facts.{lets_still, passed_check, by_option, not_both}
 use Rattle.dna_queues.proofs.Goes.{Link, Goes, said_as, late_link, wide_link, use_own}
 use Rattle.dna_queues.proofs.LinkLists.{IsSet, set_changed, IsUnique}

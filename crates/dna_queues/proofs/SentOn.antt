@@ -1,39 +1,15 @@
 -- What is composed is sent: the machine sends it too, and follows the node as before.
-use Rattle.std.proofs.Common.{◌≡◌, ℕ, ◌<◌, true, ◌&&◌, ◌==◌, Option, Some, None, List, ◌∷◌, length, Ok, refl, sym, ap, ap₂, ◌∙◌, subst, arith}
-use Rattle.std.specs.Prelude.{slice_get}
-use Rattle.std.proofs.lemmas.Option.{same_Some}
-use Rattle.dna_packet.specs.Nsp.{NspValue}
-use Rattle.dna_station.specs.declared.link_refusal.LinkRefusal.TheVariants.{WrongNode}
-use Rattle.dna_links.specs.declared.port.Phase.{Phase}
-use Rattle.dna_links.specs.declared.port.Phase.TheVariants.{Running}
-use Rattle.dna_links.specs.declared.port.Port.{Port}
-use Rattle.dna_links.specs.declared.queue.Queues.TheVariants.{With}
-use Rattle.dna_links.specs.LookUps.{is_in, is_live, is_calling}
-use Rattle.dna_links.specs.Segmentation.{Piece}
-use Rattle.dna_links.specs.LinkBook.{are_same}
-use Rattle.dna_links.specs.Queues.{port_of_waiting}
-use Rattle.dna_links.specs.Sending.{message_sent}
-use Rattle.dna_links.specs.CutSegments.{IsAnswered}
-use Rattle.dna_links.specs.TrueSegments.{true_segments}
+use Rattle.dna_queues.proofs.Prelude.{◌≡◌, ℕ, ◌<◌, true, ◌&&◌, ◌==◌, Option, Some, None, List, ◌∷◌, length, Ok, refl, sym, ap, ap₂, ◌∙◌, subst}
+use Rattle.dna_queues.proofs.Prelude.{arith, slice_get, same_Some, NspValue, WrongNode, Phase, Running, Port, With, is_in, is_live, is_calling}
+use Rattle.dna_queues.proofs.Prelude.{Piece, are_same, port_of_waiting, message_sent, IsAnswered, true_segments, SentMessage, there_is, AreAnswered}
+use Rattle.dna_queues.proofs.Prelude.{links_left, next_links, Node, link_it_is_for, link_it_is_of, waiting, Takes}
 use Rattle.dna_links.specs.TrueLinks as machine
-use Rattle.dna_links.specs.Runs.{SentMessage}
-use Rattle.dna_links.proofs.Runs.Owners.{there_is}
-use Rattle.dna_queues.proofs.Facts.{passed_check}
-use Rattle.dna_queues.specs.Records.{AreAnswered, links_left, next_links}
+use Rattle.dna_queues.proofs.{Facts.passed_check, Words.added, Pieces.Below, WaitsToGo.goes_same, Came.Fits, Acting.LateLink, Acting.seen_as}
+use Rattle.dna_queues.proofs.{Follows.Follows, Lists.takes_first, Lists.takes_other, LinkLists.there_too, LinkLists.set_each, Sending.sends}
+use Rattle.dna_queues.proofs.{Waiting.AreOf, Waiting.of_taken}
 use Rattle.dna_queues.specs.Records as records
-use Rattle.dna_queues.specs.Hidden.{Node, link_it_is_for, link_it_is_of, waiting, Takes}
-use Rattle.dna_queues.proofs.Words.{added}
-use Rattle.dna_queues.proofs.Pieces.{Below}
 use Rattle.dna_queues.proofs.Goes.{Link, phase_of, Goes, Grows, Same}
-use Rattle.dna_queues.proofs.WaitsToGo.{goes_same}
 use Rattle.dna_queues.proofs.Ahead.{Seen, Meets, ahead_still, is_open}
-use Rattle.dna_queues.proofs.Came.{Fits}
-use Rattle.dna_queues.proofs.Acting.{LateLink, seen_as}
-use Rattle.dna_queues.proofs.Follows.{Follows}
-use Rattle.dna_queues.proofs.Lists.{takes_first, takes_other}
-use Rattle.dna_queues.proofs.LinkLists.{there_too, set_each}
-use Rattle.dna_queues.proofs.Sending.{sends}
-use Rattle.dna_queues.proofs.Waiting.{AreOf, of_taken}
 use Rattle.dna_queues.proofs.Beside.{Beside, unique_too, follows_as, eqb-same, eqb-other}
 
 -- ---- one after another

@@ -1,27 +1,11 @@
 -- A message that the machine sends was composed, or is now, and goes.
-use Rattle.std.proofs.Common.{◌≡◌, ℕ, Bool, true, false, ◌&&◌, ◌==◌, cond, ◌⊎◌, inl, inr}
-use Rattle.std.proofs.Common.{Option, Some, None, List, [], ◌∷◌, refl, sym, ap, ◌∙◌, subst, eqb-true}
-use Rattle.std.specs.Prelude.{Ok}
-use Rattle.std.proofs.lemmas.Bool.{cases_eq}
-use Rattle.dna_packet.specs.Nsp.{IsInRange}
-use Rattle.dna_links.specs.declared.queue.Queues.TheVariants.{With}
-use Rattle.dna_links.specs.Links.{Carried}
-use Rattle.dna_links.specs.LinkBook.{are_same}
-use Rattle.dna_links.specs.Sending.{Sent, message_sent}
-use Rattle.dna_links.specs.TrueSegments.{TrueSegments, Numbers, true_segments}
+use Rattle.dna_queues.proofs.Prelude.{◌≡◌, ℕ, Bool, true, false, ◌&&◌, ◌==◌, cond, ◌⊎◌, inl, inr, Option, Some, None, List, [], ◌∷◌, refl, sym, ap}
+use Rattle.dna_queues.proofs.Prelude.{◌∙◌, subst, eqb-true, Ok, cases_eq, IsInRange, With, Carried, are_same, Sent, message_sent, TrueSegments}
+use Rattle.dna_queues.proofs.Prelude.{Numbers, true_segments, SentMessage, LinkRecord, Sends, Node, Takes, First, Behind, waiting, link_it_is_for}
+use Rattle.dna_queues.proofs.Prelude.{link_it_is_of, MakesStep, SendsComposed, MadeByHidden, Makes}
 use Rattle.dna_links.specs.TrueLinks as machine
-use Rattle.dna_links.specs.Runs.{SentMessage}
-use Rattle.dna_queues.specs.Records.{LinkRecord, Sends}
-use Rattle.dna_queues.specs.Hidden.{Node, Takes, First, Behind, waiting, link_it_is_for, link_it_is_of}
-use Rattle.dna_queues.specs.Made.{MakesStep, SendsComposed, MadeByHidden, Makes}
-use Rattle.dna_queues.proofs.Goes.{Link}
-use Rattle.dna_queues.proofs.Lists.{takes_first, takes_other}
-use Rattle.dna_queues.proofs.LinkLists.{still_set, IsSet}
-use Rattle.dna_queues.proofs.Beside.{eqb-other}
-use Rattle.dna_queues.proofs.Shapes.{Shape, goes_shape}
-use Rattle.dna_queues.proofs.Turns.{sane_on}
-use Rattle.dna_queues.proofs.Early.{CanGo}
-use Rattle.dna_queues.proofs.Hide.{hide}
+use Rattle.dna_queues.proofs.{Goes.Link, Lists.takes_first, Lists.takes_other, LinkLists.still_set, LinkLists.IsSet, Beside.eqb-other, Shapes.Shape}
+use Rattle.dna_queues.proofs.{Shapes.goes_shape, Turns.sane_on, Early.CanGo, Hide.hide}
 use Rattle.dna_queues.proofs.MachineSends.{is_of_link, SendsOf, sends_of}
 use Rattle.dna_queues.proofs.Dues.{Due, put, put_here, put_other, AreDue, AreSane}
 use Rattle.dna_queues.proofs.Timed.{Awaits, packets_of, Timed}

@@ -1,20 +1,10 @@
 -- One link of which nothing waits any more: it is settled by a DC.
-use Rattle.std.proofs.Common.{◌≡◌, true, false, Option, Some, None, [], refl, sym, ap, ◌∙◌, subst}
-use Rattle.dna_links.specs.declared.port.Phase.{Phase}
-use Rattle.dna_links.specs.declared.port.Phase.TheVariants.{Running, Disconnecting, Ended}
-use Rattle.dna_links.specs.declared.port.Port.{Port}
-use Rattle.dna_links.specs.declared.queue.Said.{Said}
-use Rattle.dna_links.specs.declared.queue.Said.TheVariants.{OfRun, Disconnect}
-use Rattle.dna_links.specs.LookUps.{is_live}
-use Rattle.dna_links.specs.Queues.{settled, shows_by, further, is_silent, is_over, keeps_numbers}
-use Rattle.dna_links.specs.TrueSegments.{TrueSegments, true_segments}
+use Rattle.dna_queues.proofs.Prelude.{◌≡◌, true, false, Option, Some, None, [], refl, sym, ap, ◌∙◌, subst, Phase, Running, Disconnecting, Ended}
+use Rattle.dna_queues.proofs.Prelude.{Port, Said, OfRun, Disconnect, is_live, settled, shows_by, further, is_silent, is_over, keeps_numbers}
+use Rattle.dna_queues.proofs.Prelude.{TrueSegments, true_segments}
 use Rattle.dna_queues.proofs.Facts.{lets_still, not_both, no_case, no_other}
-use Rattle.dna_queues.proofs.Goes.{Link, said_as}
-use Rattle.dna_queues.proofs.Ahead.{Meets}
+use Rattle.dna_queues.proofs.{Goes.Link, Goes.said_as, Ahead.Meets, Follows.Follows, Sending.shows_is, Given.meets_now}
 use Rattle.dna_queues.proofs.Acting.{LateLink, level, seen_as}
-use Rattle.dna_queues.proofs.Follows.{Follows}
-use Rattle.dna_queues.proofs.Sending.{shows_is}
-use Rattle.dna_queues.proofs.Given.{meets_now}
 
 -- ---- one link that is settled
 

@@ -1,36 +1,15 @@
 -- A DC is sent: what came for its address is acted on before, and settles the link with it.
-use Rattle.std.proofs.Common.{◌≡◌, ℕ, Bool, true, false, ◌&&◌, ◌==◌, cond, Option, Some, None, List, [], ◌∷◌, Result, Ok}
-use Rattle.std.proofs.Common.{refl, sym, ap, ap₂, ◌∙◌, subst, eqb-true}
-use Rattle.std.proofs.lemmas.Bool.{false_from_ne_true}
-use Rattle.dna_packet.specs.Nsp.{DisconnectConfirm}
-use Rattle.dna_station.specs.declared.link_refusal.LinkRefusal.{LinkRefusal}
-use Rattle.dna_station.specs.declared.link_refusal.LinkRefusal.TheVariants.{WrongNode}
-use Rattle.dna_links.specs.declared.port.Port.{Port}
-use Rattle.dna_links.specs.declared.port.LinkTest.TheVariants.{HasAddress, TheLink, CalledBy}
-use Rattle.dna_links.specs.declared.queue.Queues.TheVariants.{Without, With}
-use Rattle.dna_links.specs.LookUps.{passes, is_at}
-use Rattle.dna_links.specs.Links.{Carried, number_of, with_link, changed}
-use Rattle.dna_links.specs.Queues.{in_use, settled}
-use Rattle.dna_links.specs.inner.Forms.{of_no_link, ending}
-use Rattle.dna_links.specs.Sending.{Sent, sent_step, message_sent}
-use Rattle.dna_links.specs.TrueSegments.{Numbers, true_segments}
+use Rattle.dna_queues.proofs.Prelude.{◌≡◌, ℕ, Bool, true, false, ◌&&◌, ◌==◌, cond, Option, Some, None, List, [], ◌∷◌, Result, Ok, refl, sym, ap}
+use Rattle.dna_queues.proofs.Prelude.{ap₂, ◌∙◌, subst, eqb-true, false_from_ne_true, DisconnectConfirm, LinkRefusal, WrongNode, Port, HasAddress}
+use Rattle.dna_queues.proofs.Prelude.{TheLink, CalledBy, Without, passes, is_at, Carried, number_of, with_link, changed, settled}
+use Rattle.dna_queues.proofs.Prelude.{of_no_link, ending, Sent, sent_step, message_sent, Numbers, true_segments, SentMessage, IsFound, looked}
+use Rattle.dna_queues.proofs.Prelude.{LinkRecord, Sends, LateSegments, late_segments, Links, Node, waiting, link_it_is_for, EndsCall, SendsConfirm}
+use Rattle.dna_queues.proofs.Prelude.{Makes}
 use Rattle.dna_links.specs.TrueLinks as machine
-use Rattle.dna_links.specs.Runs.{SentMessage}
-use Rattle.dna_links.proofs.Tables.Outcomes.{IsFound, looked}
-use Rattle.dna_queues.proofs.Facts.{not_both, passed_check}
-use Rattle.dna_queues.specs.Records.{LinkRecord, Sends}
-use Rattle.dna_queues.specs.Hidden.{LateSegments, late_segments, Links, Node, waiting, link_it_is_for}
-use Rattle.dna_queues.specs.Made.{EndsCall, SendsConfirm, Makes}
+use Rattle.dna_queues.proofs.{Facts.not_both, Facts.passed_check, Sending.link_owns, Turns.HasSaid, Early.none_early, Hide.hide, Dues.Due}
+use Rattle.dna_queues.proofs.{Dues.AreSane, Timed.Awaits, Timed.Timed, Prepared.set_sane, SentTimed.Sound}
 use Rattle.dna_queues.proofs.Goes.{Link, node_port, node_own}
 use Rattle.dna_queues.proofs.LinkLists.{still_set, IsSet, set_changed, at_none}
-use Rattle.dna_queues.proofs.Sending.{link_owns}
-use Rattle.dna_queues.proofs.Turns.{HasSaid}
-use Rattle.dna_queues.proofs.Early.{none_early}
-use Rattle.dna_queues.proofs.Hide.{hide}
-use Rattle.dna_queues.proofs.Dues.{Due, AreSane}
-use Rattle.dna_queues.proofs.Timed.{Awaits, Timed}
-use Rattle.dna_queues.proofs.Prepared.{set_sane}
-use Rattle.dna_queues.proofs.SentTimed.{Sound}
 use Rattle.dna_queues.proofs.Addressed.{awaits_nothing, flushed, flushed_number, addressed}
 use Rattle.dna_queues.proofs.Settling.{Settles, settles, settled_sane}
 

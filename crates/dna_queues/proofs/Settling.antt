@@ -1,15 +1,8 @@
 -- A link that a DC settles: what came for it was acted on.
-use Rattle.std.proofs.Common.{◌≡◌, true, false, Option, Some, None, refl, sym, ap, ◌∙◌, subst}
-use Rattle.dna_links.specs.declared.port.Phase.{Phase}
-use Rattle.dna_links.specs.declared.port.Phase.TheVariants.{Calling, Called, Confirming, Running, Disconnecting, Ended}
-use Rattle.dna_links.specs.declared.queue.Said.{Said}
-use Rattle.dna_links.specs.declared.queue.Said.TheVariants.{Nothing, OfRun, Disconnect}
-use Rattle.dna_links.specs.LookUps.{is_in}
-use Rattle.dna_links.specs.Queues.{port_of_waiting, settled, shows_by, further, is_silent, is_over, keeps_numbers}
-use Rattle.dna_links.specs.TrueSegments.{TrueSegments, true_segments}
-use Rattle.dna_queues.proofs.Facts.{lets_still, not_both}
-use Rattle.dna_queues.proofs.Goes.{Link}
-use Rattle.dna_queues.proofs.Sending.{shows_is}
+use Rattle.dna_queues.proofs.Prelude.{◌≡◌, true, false, Option, Some, None, refl, sym, ap, ◌∙◌, subst, Phase, Calling, Called, Confirming, Running}
+use Rattle.dna_queues.proofs.Prelude.{Disconnecting, Ended, Said, Nothing, OfRun, Disconnect, is_in, port_of_waiting, settled, shows_by, further}
+use Rattle.dna_queues.proofs.Prelude.{is_silent, is_over, keeps_numbers, TrueSegments, true_segments}
+use Rattle.dna_queues.proofs.{Facts.lets_still, Facts.not_both, Goes.Link, Sending.shows_is}
 use Rattle.dna_queues.proofs.Turns.{Sane, Began, has_run}
 
 pub record Settles (l x : Link) : Type 0 where

@@ -1,12 +1,7 @@
 -- What a sending changes of a link of the machine.
-use Rattle.std.proofs.Common.{◌≡◌, ℕ, true, false, refl}
-use Rattle.dna_packet.specs.Nsp.{NspValue, DataSegment, LinkService, DataAck, OtherDataAck, ConnectAck, NoOperation}
-use Rattle.dna_packet.specs.Nsp.{DisconnectInitiate, DisconnectConfirm}
-use Rattle.dna_links.specs.declared.queue.Said.{Said}
-use Rattle.dna_links.specs.declared.queue.Said.TheVariants.{Nothing, OfRun, Disconnect}
-use Rattle.dna_links.specs.SegmentBook.{wider}
-use Rattle.dna_links.specs.Queues.{is_silent, is_over, further}
-use Rattle.dna_links.specs.TrueSegments.{TrueSegments, went_on}
+use Rattle.dna_queues.proofs.Prelude.{◌≡◌, ℕ, true, false, refl, NspValue, DataSegment, LinkService, DataAck, OtherDataAck, ConnectAck, NoOperation}
+use Rattle.dna_queues.proofs.Prelude.{DisconnectInitiate, DisconnectConfirm, Said, Nothing, OfRun, Disconnect, wider, is_silent, is_over, further}
+use Rattle.dna_queues.proofs.Prelude.{TrueSegments, went_on}
 use Rattle.dna_queues.proofs.Goes.{Link, Goes, said_as}
 use Rattle.dna_queues.proofs.Delivered.{Leaves, late_still, acks_still}
 

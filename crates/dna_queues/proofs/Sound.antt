@@ -1,43 +1,23 @@
 -- Whatever records the machine makes a node with queues makes too, by hidden steps.
-use Rattle.std.proofs.Common.{◌≡◌, ℕ, true, ◌&&◌, ◌==◌, Some, None, List, [], ◌∷◌, ◌++◌, Result, Ok, Err, refl, sym, ap, ◌∙◌, subst, append-nil}
-use Rattle.dna_packet.specs.Nsp.{NspValue, ConnectAck, NoOperation, ConnectInitiate, DisconnectConfirm, IsInRange}
-use Rattle.dna_station.specs.declared.link_refusal.LinkRefusal.{LinkRefusal}
-use Rattle.dna_station.specs.declared.link_refusal.LinkRefusal.TheVariants.{WrongNode}
-use Rattle.dna_links.specs.declared.port.LinkTest.TheVariants.{LiveTo}
-use Rattle.dna_links.specs.declared.queue.Queues.TheVariants.{Without, With}
-use Rattle.dna_links.specs.Links.{Carried, number_of, begun}
-use Rattle.dna_links.specs.inner.Forms.{called}
-use Rattle.dna_links.specs.User.{LinkEventValue, Open, Accept, Reject, In, Up, Close, Abort, Boot}
+use Rattle.dna_queues.proofs.Prelude.{◌≡◌, ℕ, true, ◌&&◌, ◌==◌, Some, None, List, [], ◌∷◌, ◌++◌, Result, Ok, Err, refl, sym, ap, ◌∙◌, subst}
+use Rattle.dna_queues.proofs.Prelude.{append-nil, NspValue, ConnectAck, NoOperation, ConnectInitiate, DisconnectConfirm, IsInRange, LinkRefusal}
+use Rattle.dna_queues.proofs.Prelude.{WrongNode, LiveTo, Without, With, Carried, number_of, begun, called, LinkEventValue, Open, Accept, Reject, In}
+use Rattle.dna_queues.proofs.Prelude.{Up, Close, Abort, Boot, Sent, message_sent, of_partner, arrived_step, message_arrived, TrueSegments, Numbers}
+use Rattle.dna_queues.proofs.Prelude.{true_segments, SentMessage, looked, checked, LinkRecord, OfUser, Sends, Keeps, OfNoLink, links_left}
+use Rattle.dna_queues.proofs.Prelude.{MadeByMachine, AreInRange, EventsAreInRange, late_segments, Links, Node, dstaddr, link_it_is_for, new_node}
+use Rattle.dna_queues.proofs.Prelude.{KeepsAtOnce, PassesBy, MadeByHidden, NoMore, Makes}
 use Rattle.dna_links.specs.User as user
-use Rattle.dna_links.specs.Sending.{Sent, message_sent}
-use Rattle.dna_links.specs.Arriving.{of_partner, arrived_step, message_arrived}
-use Rattle.dna_links.specs.TrueSegments.{TrueSegments, Numbers, true_segments}
 use Rattle.dna_links.specs.TrueLinks as machine
-use Rattle.dna_links.specs.Runs.{SentMessage}
-use Rattle.dna_links.proofs.Tables.Outcomes.{looked, checked}
 use Rattle.dna_queues.proofs.Facts.{passed_check, same_Ok, by_option}
-use Rattle.dna_queues.specs.Records.{LinkRecord, OfUser, Sends, Keeps, OfNoLink, links_left, MadeByMachine, AreInRange, EventsAreInRange}
-use Rattle.dna_queues.specs.Hidden.{late_segments, Links, Node, dstaddr, link_it_is_for}
-use Rattle.dna_queues.specs.Made.{new_node, KeepsAtOnce, PassesBy, MadeByHidden, NoMore, Makes}
-use Rattle.dna_queues.proofs.Lists.{waiting_none}
-use Rattle.dna_queues.proofs.LinkLists.{at_none}
-use Rattle.dna_queues.proofs.Goes.{Link, phase_of}
+use Rattle.dna_queues.proofs.{Lists.waiting_none, LinkLists.at_none, Goes.Link, Goes.phase_of, MachineSends.is_of_link, Dues.Due, Dues.AreSane}
+use Rattle.dna_queues.proofs.{Timed.Timed, SentTimed.Sound, SentTimed.sent_sound, UserTimed.in_sound, ClosedTimed.close_sound}
+use Rattle.dna_queues.proofs.{AbortTimed.abort_sound, DeliveredTimed.up_sound, Addressed.awaits_nothing, ConfirmTimed.confirm_sound}
+use Rattle.dna_queues.proofs.{ConfirmTimed.nothing_sound, KeptTimed.for_link_sound}
 use Rattle.dna_queues.proofs.Early.{CanGo, AreEarly, none_refused}
-use Rattle.dna_queues.proofs.MachineSends.{is_of_link}
-use Rattle.dna_queues.proofs.Dues.{Due, AreSane}
-use Rattle.dna_queues.proofs.Timed.{Timed}
-use Rattle.dna_queues.proofs.SentTimed.{Sound, sent_sound}
-use Rattle.dna_queues.proofs.UserTimed.{in_sound}
-use Rattle.dna_queues.proofs.ClosedTimed.{close_sound}
-use Rattle.dna_queues.proofs.AbortTimed.{abort_sound}
 use Rattle.dna_queues.proofs.BootTimed.{none_due, none_are_due, boot_sound}
-use Rattle.dna_queues.proofs.DeliveredTimed.{up_sound}
-use Rattle.dna_queues.proofs.Addressed.{awaits_nothing}
-use Rattle.dna_queues.proofs.ConfirmTimed.{confirm_sound, nothing_sound}
 use Rattle.dna_queues.proofs.BegunTimed.{begun_sane, begun_due, begun_timed}
 use Rattle.dna_queues.proofs.AnsweredTimed.{opens_sound, accepts_sound, rejects_sound}
 use Rattle.dna_queues.proofs.AllTimed.{all_come, all_number, all_may}
-use Rattle.dna_queues.proofs.KeptTimed.{for_link_sound}
 
 module _ (s : machine.Links) (sane : AreSane s) (later : List LinkRecord) where
   -- ---- what is kept for no link

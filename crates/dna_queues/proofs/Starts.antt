@@ -1,17 +1,9 @@
 -- Messages of phases before RUN, which a link sends although its phase is past: they change nothing, and it could send them before it went on.
-use Rattle.std.proofs.Common.{◌≡◌, ℕ, Bool, true, false, not, ◌&&◌, ◌||◌, Option, is_none, List, [], ◌∷◌, refl, sym, ap, ap₂, ◌∙◌, subst}
-use Rattle.std.proofs.lemmas.Bool.{and_parts}
-use Rattle.dna_packet.specs.Nsp.{NspValue, ConnectAck, NoOperation, ConnectInitiate, ConnectConfirm, DisconnectInitiate, DisconnectConfirm}
-use Rattle.dna_links.specs.declared.port.Phase.{Phase}
-use Rattle.dna_links.specs.declared.port.Phase.TheVariants.{Disconnecting}
-use Rattle.dna_links.specs.declared.queue.Queues.TheVariants.{With}
-use Rattle.dna_links.specs.LookUps.{is_in, is_live, is_at, has_both}
-use Rattle.dna_links.specs.Links.{Carried}
-use Rattle.dna_links.specs.Queues.{in_use, is_silent}
+use Rattle.dna_queues.proofs.Prelude.{◌≡◌, ℕ, Bool, true, false, not, ◌&&◌, ◌||◌, Option, is_none, List, [], ◌∷◌, refl, sym, ap, ap₂, ◌∙◌, subst}
+use Rattle.dna_queues.proofs.Prelude.{and_parts, NspValue, ConnectAck, NoOperation, ConnectInitiate, ConnectConfirm, DisconnectInitiate}
+use Rattle.dna_queues.proofs.Prelude.{DisconnectConfirm, Phase, Disconnecting, With, is_in, is_live, is_at, has_both, Carried, in_use, is_silent}
 use Rattle.dna_queues.proofs.Goes.{Link, phase_of, Goes, use_own, use_far, use_opened}
-use Rattle.dna_queues.proofs.Turns.{asks, is_past}
-use Rattle.dna_queues.proofs.Early.{CanGo, AreEarly}
-use Rattle.dna_queues.proofs.Moved.{may_be}
+use Rattle.dna_queues.proofs.{Turns.asks, Turns.is_past, Early.CanGo, Early.AreEarly, Moved.may_be}
 
 -- this link goes on to that one
 pub record Starts (l k : Link) : Type 0 where

@@ -1,32 +1,14 @@
 -- The node with queues beside the machine: what it has composed of each link for later, and what waits for a link that has ended in the machine.
-use Rattle.std.proofs.Common.{◌≡◌, ℕ, Bool, true, false, ◌&&◌, ◌||◌, ◌==◌, cond, ◌⊎◌, inl, inr, Option, Some, None, List, [], ◌∷◌, ◌++◌, length}
-use Rattle.std.proofs.Common.{refl, sym, ap, ap₂, ◌∙◌, subst, append-nil}
-use Rattle.std.specs.Prelude.{slice_get, not}
-use Rattle.std.proofs.lemmas.Bool.{cases_eq, and_parts}
-use Rattle.std.proofs.lemmas.Option.{same_Some}
-use Rattle.dna_packet.specs.Nsp.{NspValue, ConnectAck, NoOperation, DisconnectInitiate, DisconnectConfirm}
-use Rattle.dna_station.specs.declared.link_refusal.LinkRefusal.TheVariants.{WrongNode}
-use Rattle.dna_links.specs.declared.port.Phase.{Phase}
-use Rattle.dna_links.specs.declared.port.Phase.TheVariants.{Called}
-use Rattle.dna_links.specs.declared.port.Port.{Port}
-use Rattle.dna_links.specs.declared.port.LinkTest.TheVariants.{TheLink, CallingAt, BegunBy}
-use Rattle.dna_links.specs.declared.queue.Queues.TheVariants.{Without, With}
-use Rattle.dna_links.specs.LookUps.{passes, is_live, is_at}
-use Rattle.dna_links.specs.Links.{Carried}
-use Rattle.dna_links.specs.Queues.{in_use}
-use Rattle.dna_links.specs.LinkBook.{are_same}
-use Rattle.dna_links.specs.Sending.{message_sent}
+use Rattle.dna_queues.proofs.Prelude.{◌≡◌, ℕ, Bool, true, false, ◌&&◌, ◌||◌, ◌==◌, cond, ◌⊎◌, inl, inr, Option, Some, None, List, [], ◌∷◌, ◌++◌}
+use Rattle.dna_queues.proofs.Prelude.{length, refl, sym, ap, ap₂, ◌∙◌, subst, append-nil, slice_get, not, cases_eq, and_parts, same_Some, NspValue}
+use Rattle.dna_queues.proofs.Prelude.{ConnectAck, NoOperation, DisconnectInitiate, DisconnectConfirm, WrongNode, Phase, Called, Port, TheLink}
+use Rattle.dna_queues.proofs.Prelude.{CallingAt, BegunBy, Without, With, passes, is_live, is_at, Carried, in_use, are_same, message_sent}
+use Rattle.dna_queues.proofs.Prelude.{SentMessage, late_segments, Links, Node, HiddenStep, Composes, Acknowledges, is_composed, waiting}
+use Rattle.dna_queues.proofs.Prelude.{link_it_is_for, link_it_is_of}
 use Rattle.dna_links.specs.TrueLinks as machine
-use Rattle.dna_links.specs.Runs.{SentMessage}
-use Rattle.dna_queues.proofs.Facts.{passed_check}
-use Rattle.dna_queues.specs.Hidden.{late_segments, Links, Node, HiddenStep, Composes, Acknowledges, is_composed, waiting}
-use Rattle.dna_queues.specs.Hidden.{link_it_is_for, link_it_is_of}
+use Rattle.dna_queues.proofs.{Facts.passed_check, Lists.waiting_push, Beside.eqb-same, Beside.eqb-other, Turns.asks, Turns.is_now, Early.MayGo}
 use Rattle.dna_queues.proofs.Goes.{Link, phase_of, Goes, use_opened, at_node, node_port, node_own, node_use}
-use Rattle.dna_queues.proofs.Lists.{waiting_push}
 use Rattle.dna_queues.proofs.LinkLists.{still_set, IsUnique, IsSet, there_too}
-use Rattle.dna_queues.proofs.Beside.{eqb-same, eqb-other}
-use Rattle.dna_queues.proofs.Turns.{asks, is_now}
-use Rattle.dna_queues.proofs.Early.{MayGo}
 use Rattle.dna_queues.proofs.Hide.{LateLink, hide, composes_now}
 use Rattle.dna_queues.proofs.Dues.{AreSane, Due, Went, put, put_here, put_other, went_on, went_use}
 
@@ -108,7 +90,8 @@ module _ (s : machine.Links) (sane : AreSane s) where
       of_machine i h l at_h at_l own_h =
           let same : h ≡ hide (dues i).link = same_Some h (hide (dues i).link) (sym at_h ∙ t.all i l at_l) in
           ap (λ (o : Option ℕ). is_at o own)
-          (sym (ap (λ (p : Port). p.own) (t.went i l at_l).port) ∙ sym (node_own (dues i).link) ∙ sym (ap (λ (x : LateLink). x.port.own) same)) ∙ own_h
+          (sym (ap (λ (p : Port). p.own) (t.went i l at_l).port) ∙ sym (node_own (dues i).link) ∙ sym (ap (λ (x : LateLink). x.port.own) same))
+          ∙ own_h
 
   module _ (i : ℕ) (l : Link) (at : slice_get s.links i ≡ Some l) where
     -- one more is composed

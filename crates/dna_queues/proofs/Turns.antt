@@ -1,21 +1,11 @@
 -- Whose turn a message is: the phase that it asks for stands, or is past.
-use Rattle.std.proofs.Common.{◌≡◌, ℕ, Bool, true, false, not, ◌&&◌, ◌||◌, Option, Some, None, refl, sym, ap, ◌∙◌, subst}
-use Rattle.std.proofs.lemmas.Bool.{and_parts}
-use Rattle.std.proofs.lemmas.Option.{same_Some}
-use Rattle.dna_packet.specs.Nsp.{NspValue, DataSegment, LinkService, DataAck, OtherDataAck, ConnectAck, NoOperation, ConnectInitiate}
-use Rattle.dna_packet.specs.Nsp.{ConnectConfirm, DisconnectInitiate, DisconnectConfirm}
-use Rattle.dna_links.specs.declared.port.Phase.{Phase}
-use Rattle.dna_links.specs.declared.port.Phase.TheVariants.{Calling, Called, Confirming, Running, Disconnecting, Ended}
-use Rattle.dna_links.specs.declared.port.Port.{Port}
-use Rattle.dna_links.specs.declared.port.LinkTest.TheVariants.{CalledBy}
-use Rattle.dna_links.specs.declared.queue.Queues.TheVariants.{With}
-use Rattle.dna_links.specs.declared.queue.Said.{Said}
-use Rattle.dna_links.specs.declared.queue.Said.TheVariants.{Nothing, OfRun}
-use Rattle.dna_links.specs.LookUps.{passes, is_in, is_live, is_called, is_at, has_both}
-use Rattle.dna_links.specs.Queues.{in_use, port_of_waiting, is_silent, is_over, further}
-use Rattle.dna_queues.proofs.Facts.{not_both, by_option}
+use Rattle.dna_queues.proofs.Prelude.{◌≡◌, ℕ, Bool, true, false, not, ◌&&◌, ◌||◌, Option, Some, None, refl, sym, ap, ◌∙◌, subst, and_parts}
+use Rattle.dna_queues.proofs.Prelude.{same_Some, NspValue, DataSegment, LinkService, DataAck, OtherDataAck, ConnectAck, NoOperation}
+use Rattle.dna_queues.proofs.Prelude.{ConnectInitiate, ConnectConfirm, DisconnectInitiate, DisconnectConfirm, Phase, Calling, Called, Confirming}
+use Rattle.dna_queues.proofs.Prelude.{Running, Disconnecting, Ended, Port, CalledBy, With, Said, Nothing, OfRun, passes, is_in, is_live, is_called}
+use Rattle.dna_queues.proofs.Prelude.{is_at, has_both, in_use, port_of_waiting, is_silent, is_over, further}
+use Rattle.dna_queues.proofs.{Facts.not_both, Facts.by_option, Shapes.Shape}
 use Rattle.dna_queues.proofs.Goes.{Link, phase_of, Goes, said_as, late_link, wide_link, use_opened, at_node, node_port}
-use Rattle.dna_queues.proofs.Shapes.{Shape}
 
 -- the phase that a message asks for; a connect ack asks for none
 abbrev pub asks : NspValue → Option Phase

@@ -1,36 +1,17 @@
 -- What the user does with a link: it is done by the node with queues too, once what the link says in its phase until then is composed.
-use Rattle.std.proofs.Common.{◌≡◌, ℕ, true, false, Option, Some, List, ◌∷◌, Ok, Err, refl, sym, ap, ◌∙◌, subst}
-use Rattle.std.specs.Prelude.{slice_get}
-use Rattle.dna_station.specs.declared.link_refusal.LinkRefusal.TheVariants.{NoLink, LinkState}
-use Rattle.dna_links.specs.declared.port.Phase.{Phase}
-use Rattle.dna_links.specs.declared.port.Phase.TheVariants.{Calling, Confirming, Running, Disconnecting}
-use Rattle.dna_links.specs.declared.port.Port.{Port}
-use Rattle.dna_links.specs.declared.port.LinkTest.TheVariants.{LiveAt}
-use Rattle.dna_links.specs.declared.queue.Queues.TheVariants.{With}
-use Rattle.dna_links.specs.LookUps.{passes, is_in, is_live, is_called, takes_messages}
-use Rattle.dna_links.specs.Links.{changed, with_segments}
-use Rattle.dna_links.specs.LinkBook.{user_step}
-use Rattle.dna_links.specs.User.{In}
-use Rattle.dna_links.specs.TrueSegments.{hands_in, true_segments}
+use Rattle.dna_queues.proofs.Prelude.{◌≡◌, ℕ, true, false, Option, Some, List, ◌∷◌, Ok, Err, refl, sym, ap, ◌∙◌, subst, slice_get, NoLink}
+use Rattle.dna_queues.proofs.Prelude.{Phase, Calling, Confirming, Running, Disconnecting, Port, LiveAt, With, passes, is_in, is_live}
+use Rattle.dna_queues.proofs.Prelude.{is_called, takes_messages, changed, with_segments, user_step, In, hands_in, true_segments, SentMessage}
+use Rattle.dna_queues.proofs.Prelude.{checked, LinkRecord, OfUser, Links, Node, waiting, link_it_is_for, MakesStep, UserDoes, Makes}
 use Rattle.dna_links.specs.TrueLinks as machine
-use Rattle.dna_links.specs.Runs.{SentMessage}
-use Rattle.dna_links.proofs.Tables.Outcomes.{checked}
-use Rattle.dna_queues.proofs.Facts.{passed_check, same_Ok}
-use Rattle.dna_queues.specs.Records.{LinkRecord, OfUser}
-use Rattle.dna_queues.specs.Hidden.{Links, Node, waiting, link_it_is_for}
-use Rattle.dna_queues.specs.Made.{MakesStep, UserDoes, Makes}
+use Rattle.dna_queues.proofs.{Facts.passed_check, Facts.same_Ok, Sending.live_owns, Turns.Sane, Early.CanGo, Starts.started_before, Timed.Awaits}
+use Rattle.dna_queues.proofs.{Timed.unique_hidden, SentTimed.Sound}
 use Rattle.dna_queues.proofs.Goes.{Link, phase_of, node_port, uncalled_use}
 use Rattle.dna_queues.proofs.LinkLists.{IsUnique, IsSet, set_changed, at_found}
-use Rattle.dna_queues.proofs.Sending.{live_owns}
-use Rattle.dna_queues.proofs.Turns.{Sane}
-use Rattle.dna_queues.proofs.Early.{CanGo}
-use Rattle.dna_queues.proofs.Starts.{started_before}
 use Rattle.dna_queues.proofs.Hide.{LateLink, hide, found}
 use Rattle.dna_queues.proofs.MachineSends.{IsUsed, used, live_at}
 use Rattle.dna_queues.proofs.Dues.{put_packets, Due, put, put_here, Went, IsDue, AreSane}
-use Rattle.dna_queues.proofs.Timed.{Awaits, unique_hidden}
 use Rattle.dna_queues.proofs.Prepared.{prepare_set, set_timed, set_sane}
-use Rattle.dna_queues.proofs.SentTimed.{Sound}
 
 -- ---- one link, at any record of the user
 

@@ -1,45 +1,21 @@
 -- What the user of the links does the machine lets him do as well.
-use Rattle.std.proofs.Common.{◌≡◌, ℕ, ◌+◌, Bool, true, false, ◌&&◌, Option, Some, None, List, [], ◌∷◌, ◌++◌, drop, Result, Ok, Err, refl, sym, ap}
-use Rattle.std.proofs.Common.{ap₂, ◌∙◌, subst, arith}
-use Rattle.std.specs.Prelude.{slice_get}
-use Rattle.std.specs.Str.{bytes_eq}
-use Rattle.std.proofs.lemmas.Bool.{and_parts}
-use Rattle.dna_station.specs.declared.link_refusal.LinkRefusal.{LinkRefusal}
-use Rattle.dna_station.specs.declared.link_refusal.LinkRefusal.TheVariants.{NoLink, LinkState}
-use Rattle.dna_links.specs.declared.port.Phase.{Phase}
-use Rattle.dna_links.specs.declared.port.Phase.TheVariants.{Calling, Confirming, Running, Disconnecting}
-use Rattle.dna_links.specs.declared.port.LinkTest.TheVariants.{HasAddress, LiveAt}
-use Rattle.dna_links.specs.declared.queue.Queues.TheVariants.{Without, With}
-use Rattle.dna_links.specs.LookUps.{passes, is_live, is_at, is_connected, takes_messages}
-use Rattle.dna_links.specs.Segmentation.{Whole, next_message}
-use Rattle.dna_links.specs.Links.{number_of, changed, in_phase, with_segments}
-use Rattle.dna_links.specs.LinkBook.{user_step}
-use Rattle.dna_links.specs.Queues.{in_use}
-use Rattle.dna_links.specs.inner.Forms.{delivered}
-use Rattle.dna_links.specs.User.{LinkEventValue, Accept, Reject, In, Up, Close}
-use Rattle.dna_links.specs.TrueSegments.{TrueSegments, hands_in, delivers, delivers_whole, delivered_as, true_segments}
+use Rattle.dna_queues.proofs.Prelude.{◌≡◌, ℕ, ◌+◌, Bool, true, false, ◌&&◌, Option, Some, None, List, [], ◌∷◌, ◌++◌, drop, Result, Ok, Err, refl}
+use Rattle.dna_queues.proofs.Prelude.{sym, ap, ap₂, ◌∙◌, subst, arith, slice_get, bytes_eq, and_parts, LinkRefusal, NoLink, Phase}
+use Rattle.dna_queues.proofs.Prelude.{Calling, Confirming, Running, Disconnecting, HasAddress, LiveAt, Without, With, passes, is_live, is_at}
+use Rattle.dna_queues.proofs.Prelude.{is_connected, takes_messages, Whole, next_message, number_of, changed, in_phase, with_segments, user_step}
+use Rattle.dna_queues.proofs.Prelude.{in_use, delivered, LinkEventValue, Accept, Reject, In, Up, Close, TrueSegments, hands_in, delivers}
+use Rattle.dna_queues.proofs.Prelude.{delivers_whole, delivered_as, true_segments, IsFound, user_did, AreAnswered, IsNoAbort, next_links}
+use Rattle.dna_queues.proofs.Prelude.{LateSegments, late_segments, over, delivered_over, Links, Node, link_it_is_for, link_it_is_of, waiting, MayBe}
 use Rattle.dna_links.specs.TrueLinks as machine
-use Rattle.dna_links.proofs.Tables.Outcomes.{IsFound, user_did}
 use Rattle.dna_links.proofs.Tables.Outcomes as outcomes
-use Rattle.dna_queues.proofs.Facts.{passed_check}
-use Rattle.dna_queues.specs.Records.{AreAnswered, IsNoAbort, next_links}
+use Rattle.dna_queues.proofs.{Facts.passed_check, Pieces.below_drop, Pieces.below_next, Ahead.later, Acting.LateLink, Follows.Follows}
+use Rattle.dna_queues.proofs.{Follows.is_behind, Sending.use_found, Sending.live_owns, SentOn.Follow, Given.opens_beside, Calls.set_beside}
+use Rattle.dna_queues.proofs.{Calls.answers_beside, Messages.OfMessages, Messages.messages_follow, WaitsToGo.grown_itself}
 use Rattle.dna_queues.specs.Records as records
-use Rattle.dna_queues.specs.Hidden.{LateSegments, late_segments, over, delivered_over, Links, Node, link_it_is_for, link_it_is_of, waiting}
-use Rattle.dna_queues.specs.Made.{MayBe}
-use Rattle.dna_queues.proofs.Pieces.{below_drop, below_next}
 use Rattle.dna_queues.proofs.Goes.{Link, phase_of, use_own}
-use Rattle.dna_queues.proofs.Ahead.{later}
-use Rattle.dna_queues.proofs.Acting.{LateLink}
-use Rattle.dna_queues.proofs.Follows.{Follows, is_behind}
 use Rattle.dna_queues.proofs.LinkLists.{set_changed, unique_set, at_found, number_same, there_too}
-use Rattle.dna_queues.proofs.Sending.{use_found, live_owns}
 use Rattle.dna_queues.proofs.Beside.{Beside, follows_as, unique_too}
-use Rattle.dna_queues.proofs.SentOn.{Follow}
-use Rattle.dna_queues.proofs.Given.{opens_beside}
 use Rattle.dna_queues.proofs.Closed.{closed_link, closes_as, close_follows}
-use Rattle.dna_queues.proofs.Calls.{set_beside, answers_beside}
-use Rattle.dna_queues.proofs.Messages.{OfMessages, messages_follow}
-use Rattle.dna_queues.proofs.WaitsToGo.{grown_itself}
 
 -- ---- phases in use
 

@@ -1,7 +1,6 @@
 -- Of packets that wait each is for a link, and of messages that wait each is of a link.
-use Rattle.std.proofs.Common.{◌≡◌, ℕ, ◌<◌, ◌≤◌, true, ◌&&◌, ◌==◌, Some, List, [], ◌∷◌, ◌++◌, sym, subst, arith}
-use Rattle.dna_links.specs.Runs.{SentMessage}
-use Rattle.dna_queues.specs.Hidden.{link_it_is_for, link_it_is_of, Takes, First, Behind}
+use Rattle.dna_queues.proofs.Prelude.{◌≡◌, ℕ, ◌<◌, ◌≤◌, true, ◌&&◌, ◌==◌, Some, List, [], ◌∷◌, ◌++◌, sym, subst, arith, SentMessage, link_it_is_for}
+use Rattle.dna_queues.proofs.Prelude.{link_it_is_of, Takes, First, Behind}
 
 abbrev pub IsFor : SentMessage → Type 0
 IsFor unit = (address : ℕ) × (link_it_is_for unit ≡ Some address)

@@ -1,16 +1,8 @@
 -- What a sending leaves as it is, and all that waits to be sent of a link.
-use Rattle.std.proofs.Common.{◌≡◌, ℕ, Option, None, List, [], ◌∷◌, ◌++◌, refl, sym, ap, subst, arith}
-use Rattle.dna_packet.specs.Nsp.{NspValue, DataSegment, DataAck, ConnectAck, NoOperation, ConnectInitiate}
-use Rattle.dna_packet.specs.Nsp.{ConnectConfirm, DisconnectInitiate, DisconnectConfirm, IsInRange}
-use Rattle.dna_links.specs.declared.queue.Said.{Said}
-use Rattle.dna_links.specs.declared.queue.Said.TheVariants.{OfRun, Disconnect}
-use Rattle.dna_links.specs.SegmentBook.{wider}
-use Rattle.dna_links.specs.Segmentation.{in_order}
-use Rattle.dna_links.specs.CutSegments.{IsAnswered}
-use Rattle.dna_links.specs.TrueSegments.{TrueSegments, highest_received, went_on}
-use Rattle.dna_links.specs.Runs.{SentMessage}
-use Rattle.dna_queues.proofs.Words.{Grown, Carries}
-use Rattle.dna_queues.proofs.Segments.{late_grows, acks_grow}
+use Rattle.dna_queues.proofs.Prelude.{◌≡◌, ℕ, Option, None, List, [], ◌∷◌, ◌++◌, refl, sym, ap, subst, arith, NspValue, DataSegment, DataAck}
+use Rattle.dna_queues.proofs.Prelude.{ConnectAck, NoOperation, ConnectInitiate, ConnectConfirm, DisconnectInitiate, DisconnectConfirm, IsInRange}
+use Rattle.dna_queues.proofs.Prelude.{Said, OfRun, Disconnect, wider, in_order, IsAnswered, TrueSegments, highest_received, went_on, SentMessage}
+use Rattle.dna_queues.proofs.{Words.Grown, Words.Carries, Segments.late_grows, Segments.acks_grow}
 use Rattle.dna_queues.proofs.Goes.{Link, said_as, late_link, wide_link, Goes, Grows, Same, same_itself, same_on, goes_too}
 
 -- ---- what a sending leaves as it is

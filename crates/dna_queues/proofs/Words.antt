@@ -1,14 +1,8 @@
 -- What words of a link name they also name where more was received.
-use Rattle.std.proofs.Common.{◌≡◌, ℕ, ◌+◌, ◌-◌, ◌≤◌, Bool, true, false, ◌&&◌, nat_le, max, cond, Option, Some, None, List, [], ◌∷◌}
-use Rattle.std.proofs.Common.{◌<◌, refl, ap, ◌∙◌, subst, arith, leb-true}
-use Rattle.std.specs.List.{AllByRecursion}
-use Rattle.std.proofs.lemmas.Bool.{and_parts}
-use Rattle.dna_packet.specs.declared.ack_word.AckWord.{AckWord}
-use Rattle.dna_packet.specs.AckWord.{IsAckWord}
-use Rattle.dna_links.specs.Segmentation.{Unsent, with_message}
-use Rattle.dna_links.specs.SegmentBook.{REACH, wire, distance, is_of_data}
-use Rattle.dna_links.specs.TrueSegments.{TrueSegments, Named, NamedLate, highest_received, named, named_late, all_named, all_named_late}
-use Rattle.dna_links.specs.TrueSegments.{with_number, with_first, with_number_late, with_first_late}
+use Rattle.dna_queues.proofs.Prelude.{◌≡◌, ℕ, ◌+◌, ◌-◌, ◌≤◌, Bool, true, false, ◌&&◌, nat_le, max, cond, Option, Some, None, List, [], ◌∷◌, ◌<◌}
+use Rattle.dna_queues.proofs.Prelude.{refl, ap, ◌∙◌, subst, arith, leb-true, AllByRecursion, and_parts, AckWord, IsAckWord, Unsent, with_message}
+use Rattle.dna_queues.proofs.Prelude.{REACH, wire, distance, is_of_data, TrueSegments, Named, NamedLate, highest_received, named, named_late}
+use Rattle.dna_queues.proofs.Prelude.{all_named, all_named_late, with_number, with_first, with_number_late, with_first_late}
 
 -- ---- what is compared
 

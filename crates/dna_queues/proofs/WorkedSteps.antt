@@ -1,19 +1,9 @@
 -- The worked lists, step by step.
-use Rattle.std.proofs.Common.{None, [], Result, Ok, Err, refl, arith}
-use Rattle.dna_station.specs.declared.link_refusal.LinkRefusal.{LinkRefusal}
-use Rattle.dna_links.specs.declared.queue.Queues.TheVariants.{Without}
-use Rattle.dna_links.specs.Links.{no_links}
-use Rattle.dna_links.specs.LinkBook.{user_step}
-use Rattle.dna_links.specs.User.{Open, Abort}
-use Rattle.dna_links.specs.Sending.{Sent, sent_step}
-use Rattle.dna_links.specs.Arriving.{of_partner, arrived_step}
-use Rattle.dna_links.specs.TrueSegments.{Numbers}
+use Rattle.dna_queues.proofs.Prelude.{None, [], Result, Ok, Err, refl, arith, LinkRefusal, Without, no_links, user_step, Open, Abort, Sent}
+use Rattle.dna_queues.proofs.Prelude.{sent_step, of_partner, arrived_step, Numbers, SentMessage, MadeByMachine, LateSegments, late_segments, Links}
+use Rattle.dna_queues.proofs.Prelude.{First, Acts, Composes, AllActed, new_node, UserDoes, SendsComposed, KeepsForLink, MadeByHidden, NoMore, Hides}
+use Rattle.dna_queues.proofs.Prelude.{Makes, call, confirmation, acknowledgement, closing, worked, waited, given_up}
 use Rattle.dna_links.specs.TrueLinks as machine
-use Rattle.dna_links.specs.Runs.{SentMessage}
-use Rattle.dna_queues.specs.Records.{MadeByMachine}
-use Rattle.dna_queues.specs.Hidden.{LateSegments, late_segments, Links, First, Acts, Composes, AllActed}
-use Rattle.dna_queues.specs.Made.{new_node, UserDoes, SendsComposed, KeepsForLink, MadeByHidden, NoMore, Hides, Makes}
-use Rattle.dna_queues.specs.Worked.{call, confirmation, acknowledgement, closing, worked, waited, given_up}
 
 abbrev nothing_sent : Sent LateSegments Numbers
 nothing_sent = record {

@@ -1,16 +1,12 @@
 -- One end alone: each accusation of the other end with its near miss, the order of the checks at a receipt, and what is left out; and its station
 -- alone. The end is node 1.1.
-use Rattle.std.proofs.Common.{◌≡◌, ℕ, Bool, true, false, List, [], ◌∷◌, ◌++◌}
-use Rattle.capture_record.specs.declared.fate.Fate.TheVariants.{NotKept, Kept}
-use Rattle.capture_record.specs.declared.record.Record.{Record}
-use Rattle.capture_record.specs.declared.record.Record.TheVariants.{Sent, Received, User}
-use Rattle.capture_record.specs.declared.event.Event.TheVariants.{Start, Halt, Open, Accept, In, Up, Close}
-use Rattle.dna_station.specs.declared.refusal.StationRefusal.TheVariants.{WrongState, WrongResponse, WrongKeep}
-use Rattle.dna_station.specs.declared.refusal.StepRefusal.{StepRefusal}
-use Rattle.dna_station.specs.declared.refusal.StepRefusal.TheVariants.{NotAMessage, HintOrder, BadPacket, BadNsp, Station as OfStation}
+use Rattle.dna_rows.proofs.Prelude.{◌≡◌, ℕ, Bool, true, false, List, [], ◌∷◌, ◌++◌, NotKept, Kept, Record, Sent, Received, User, Start, Halt, In}
+use Rattle.dna_rows.proofs.Prelude.{Up, WrongState, WrongResponse, WrongKeep, StepRefusal, NotAMessage, HintOrder, BadPacket, BadNsp, WrongNode}
+use Rattle.dna_rows.proofs.Prelude.{WrongAck, Accused, ThisEnd, OtherEnd, EndingAlone, Passed, judged_alone, judged_station_alone}
+use Rattle.capture_record.specs.declared.event.Event.TheVariants.{Open, Accept, Close}
+use Rattle.dna_station.specs.declared.refusal.StepRefusal.TheVariants.{Station as OfStation}
 use Rattle.dna_station.specs.declared.refusal.StepRefusal.TheVariants.{Links as OfLinks}
-use Rattle.dna_station.specs.declared.link_refusal.LinkRefusal.TheVariants.{WrongNode, WrongAck}
-use Rattle.dna_node.specs.Alone.{Accused, ThisEnd, OtherEnd, EndingAlone, Passed, Refused, judged_alone, judged_station_alone}
+use Rattle.dna_node.specs.Alone.{Refused}
 use Rattle.dna_rows.proofs.Units.{computing, control, STRT, STACK, ACK, NAK, REP, data_of, from_b, CI, DI, DATA_ACK, ack, nak, other_ack, SEGMENT}
 use Rattle.dna_rows.proofs.Units.{data_a, data_b, carries}
 use Rattle.dna_rows.proofs.Captures.{started, confirmed_a}

@@ -1,13 +1,6 @@
 -- The records with which most rows begin, of side a and of side b.
-use Rattle.std.proofs.Common.{ℕ, List, [], ◌∷◌, ◌++◌}
-use Rattle.wire_base.specs.declared.side.Side.{Side}
-use Rattle.capture_record.specs.declared.fate.Fate.TheVariants.{NotKept, Kept}
-use Rattle.capture_record.specs.declared.record.Record.{Record}
-use Rattle.capture_record.specs.declared.record.Record.TheVariants.{Sent, Received, User}
-use Rattle.capture_record.specs.declared.event.Event.TheVariants.{Start, Open, Accept}
-use Rattle.dna_station.specs.declared.refusal.StepRefusal.{StepRefusal}
-use Rattle.dna_node.specs.declared.finding.Cause.TheVariants.{Step}
-use Rattle.dna_node.specs.declared.finding.Finding.{Finding}
+use Rattle.dna_rows.proofs.Prelude.{ℕ, List, [], ◌∷◌, ◌++◌, Side, NotKept, Kept, Record, Sent, Received, User, Start, StepRefusal, Step, Finding}
+use Rattle.capture_record.specs.declared.event.Event.TheVariants.{Open, Accept}
 use Rattle.dna_node.specs.declared.finding.Finding.TheVariants.{Refused}
 use Rattle.dna_rows.proofs.Units.{STRT, STACK, ACK, CI, CC, LINK_SERVICE, data_a, data_b}
 

@@ -1,15 +1,8 @@
 -- How worked rows of two nodes are computed: their records are made one after another, a record of a as long as it can be made, else one of b. What
 -- is made or refused in one order is in each, so this order will do.
-use Rattle.std.proofs.Common.{◌≡◌, ℕ, zero, suc, ◌+◌, Bool, true, false, Option, Some, None, List, [], ◌∷◌, ◌++◌, length, refl, sym, subst, ◌∙◌}
-use Rattle.std.proofs.lemmas.Option.{same_Some}
-use Rattle.std.proofs.lemmas.List.{append-nil, append_assoc}
-use Rattle.two_nodes.specs.Nodes.{Nodes, World, Outcome, Made, Waits, Refused, Run, Done, OfA, OfB, IsRun, advance}
-use Rattle.two_nodes.proofs.Order.{run-append}
-use Rattle.wire_base.specs.declared.side.Side.{Side}
-use Rattle.wire_base.specs.declared.side.Side.TheVariants.{A, B}
-use Rattle.capture_record.specs.declared.record.Record.{Record}
-use Rattle.dna_station.specs.declared.head.Head.{Head}
-use Rattle.dna_station.specs.declared.refusal.StepRefusal.{StepRefusal}
+use Rattle.dna_rows.proofs.Prelude.{◌≡◌, ℕ, zero, suc, ◌+◌, Bool, true, false, Option, Some, None, List, [], ◌∷◌, ◌++◌, length, refl, sym, subst}
+use Rattle.dna_rows.proofs.Prelude.{◌∙◌, same_Some, append-nil, append_assoc, Nodes, World, Outcome, Made, Waits, Refused, Run, Done, OfA, OfB}
+use Rattle.dna_rows.proofs.Prelude.{IsRun, advance, run-append, Side, A, B, Record, Head, StepRefusal}
 
 -- the heads of the rows: node 1.1 is side a, node 1.2 side b
 abbrev pub head_1 : Head

@@ -1,3 +1,5 @@
+-- the words that all other files share
+mod Prelude
 -- how a verdict is computed, and what the rows are made of
 pub mod Courses
 pub mod Verdicts

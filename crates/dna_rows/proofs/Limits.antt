@@ -1,22 +1,13 @@
 -- The limits of a capture and of a script, as numbers. Code and definitions share the constants of a capture, so a proof that the code keeps to a
 -- limit says nothing of how great that is. In these rows the greatest that fits does fit and one more does not: who changes a constant, or takes `<`
 -- for `≤` in a definition, has to change the row.
-use Rattle.std.proofs.Common.{◌≡◌, ◌≢◌, ℕ, true, List, [], length, inl, inr, refl, arith}
-use Rattle.std.specs.List.{AllByRecursion}
-use Rattle.capture.specs.declared.fault.Departure.TheVariants.{TooLong, TooMany}
-use Rattle.capture_record.specs.declared.fate.Fate.TheVariants.{Kept}
-use Rattle.capture_record.specs.declared.record.Record.{Record}
-use Rattle.capture_record.specs.declared.record.Record.TheVariants.{Sent, Received, Noise, User}
-use Rattle.capture_record.specs.declared.event.Event.TheVariants.{In, Up}
-use Rattle.capture.specs.declared.hint.HintForm.{HintForm}
-use Rattle.capture.specs.declared.hint.HintForm.TheVariants.{Distance}
-use Rattle.capture_record.specs.Range.{IsLink, NumbersFit, IsShort, IsRecord}
-use Rattle.capture.specs.Range.{IsNode, FormFits, IsCapture}
-use Rattle.capture.specs.Departing.{first_line, has_lf, IsWhole, LineDeparts, RecordDeparts}
+use Rattle.dna_rows.proofs.Prelude.{◌≡◌, ◌≢◌, ℕ, true, List, [], length, inl, inr, refl, arith, AllByRecursion, TooLong, TooMany, Kept, Record}
+use Rattle.dna_rows.proofs.Prelude.{Sent, Received, User, In, Up, HintForm, Distance, IsLink, NumbersFit, IsShort, IsRecord, IsNode, FormFits}
+use Rattle.dna_rows.proofs.Prelude.{IsCapture, first_line, has_lf, IsWhole, LineDeparts, RecordDeparts, Script, IsStep, IsScript, StepDeparts}
+use Rattle.dna_rows.proofs.Prelude.{most_bytes}
+use Rattle.capture_record.specs.declared.record.Record.TheVariants.{Noise}
 use Rattle.dna_links.specs.User as links
-use Rattle.dna_play.specs.Script.{Script}
 use Rattle.dna_play.specs.Script as step
-use Rattle.dna_play.specs.ScriptText.{IsStep, IsScript, StepDeparts, most_bytes}
 use Rattle.dna_play.specs.ScriptText as script_range
 
 -- ---- a line of either text, before its LF: at most 131,081 bytes. Refuses another MAX_LINE

@@ -1,14 +1,7 @@
 -- What a packet is to the links: whether it is returned, and what of its header is not judged.
-use Rattle.std.proofs.Common.{[], ◌∷◌, ◌++◌}
-use Rattle.wire_base.specs.declared.side.Side.TheVariants.{A}
-use Rattle.dna_station.specs.declared.head.Head.{Head}
-use Rattle.capture_record.specs.declared.fate.Fate.TheVariants.{NotKept, Kept}
-use Rattle.capture_record.specs.declared.record.Record.TheVariants.{Sent, Received, User}
-use Rattle.capture_record.specs.declared.event.Event.TheVariants.{Start, Open, Accept}
-use Rattle.dna_station.specs.declared.refusal.StationRefusal.TheVariants.{WrongState}
+use Rattle.dna_rows.proofs.Prelude.{[], ◌∷◌, ◌++◌, A, Head, NotKept, Kept, Sent, Received, User, Start, WrongState, NoLink, Accepted}
+use Rattle.capture_record.specs.declared.event.Event.TheVariants.{Open, Accept}
 use Rattle.dna_station.specs.declared.refusal.StepRefusal.TheVariants.{Station as OfStation, Links as OfLinks}
-use Rattle.dna_station.specs.declared.link_refusal.LinkRefusal.TheVariants.{NoLink}
-use Rattle.dna_node.specs.declared.finding.Finding.TheVariants.{Accepted}
 use Rattle.dna_rows.proofs.Verdicts.{Verdict, verdict, VerdictOf}
 use Rattle.dna_rows.proofs.Units.{computing, control, data_of, behind_a, CI}
 use Rattle.dna_rows.proofs.Captures.{started, answered, refused}

@@ -1,16 +1,10 @@
 -- How the worked rows of the player are stated: a script over nodes 1.1 and 1.2, and what becomes of it, by its ends alone and with their nodes.
-use Rattle.std.proofs.Common.{◌≡◌, ℕ, ◌+◌, ◌%◌, zero, suc, List, [], ◌∷◌, ◌++◌, Result, Ok, Err}
-use Rattle.wire_base.specs.declared.side.Side.TheVariants.{A, B}
-use Rattle.ddcmp_msg.specs.Spelling.{spelling}
-use Rattle.capture_record.specs.declared.fate.Fate.TheVariants.{NotKept, Kept, Dropped}
-use Rattle.capture_record.specs.declared.record.Record.{Record}
-use Rattle.capture_record.specs.declared.record.Record.TheVariants.{Sent, Received, Noise}
-use Rattle.dna_play.specs.Script.{StepValue, ScriptStep, Script, Start, Send, Deliver, Open, Accept, Reject}
-use Rattle.dna_play.specs.Stop.{Stop, BadStep}
-use Rattle.dna_play.specs.Played.{end_step, Played, plays_step, play, ends_of}
-use Rattle.dna_play.specs.StoredPlay.{stored_plays}
-use Rattle.dna_play.specs.StoredPlayed.{StoredPlayed, stored_plays_step, stored_plays_on, stored_play}
-use Rattle.dna_play.specs.Stop.{Stopped, plays_all}
+use Rattle.dna_rows.proofs.Prelude.{◌≡◌, ℕ, ◌+◌, ◌%◌, zero, suc, List, [], ◌∷◌, ◌++◌, Result, Ok, Err, A, B, spelling, NotKept, Kept, Dropped}
+use Rattle.dna_rows.proofs.Prelude.{Record, Sent, Received, StepValue, ScriptStep, Script, Send, Deliver, Open, Accept, Reject, Stop, BadStep}
+use Rattle.dna_rows.proofs.Prelude.{end_step, Played, plays_step, play, ends_of, stored_plays, StoredPlayed, stored_plays_step, stored_plays_on}
+use Rattle.dna_rows.proofs.Prelude.{stored_play, Stopped, plays_all}
+use Rattle.capture_record.specs.declared.record.Record.TheVariants.{Noise}
+use Rattle.dna_play.specs.Script.{Start}
 use Rattle.dna_rows.proofs.Units.{computing, hex}
 
 -- what the computation of a script opens

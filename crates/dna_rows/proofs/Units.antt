@@ -1,9 +1,7 @@
 -- The bytes in the rows: units, packets and messages as the standards spell them, field by field. The block checks alone are computed, by their
 -- definition. Numbers and addresses are below 256.
-use Rattle.std.proofs.Common.{ℕ, ◌+◌, ◌-◌, ◌*◌, ◌/◌, ◌%◌, List, [], ◌∷◌, ◌++◌, length}
-use Rattle.std.specs.Prelude.{nat_lt, if◌then◌else◌}
-use Rattle.wire_base.specs.BlockCheck.{is_good, check_of, word_bytes, after_byte, shift}
-use Rattle.ddcmp_msg.specs.Reading.{reading}
+use Rattle.dna_rows.proofs.Prelude.{ℕ, ◌+◌, ◌-◌, ◌*◌, ◌/◌, ◌%◌, List, [], ◌∷◌, ◌++◌, length, nat_lt, if◌then◌else◌, is_good, check_of, word_bytes}
+use Rattle.dna_rows.proofs.Prelude.{after_byte, shift, reading}
 
 -- what a row's computation opens: how a unit is read, and the block check
 unfoldable pub computing : Unit {0}

@@ -1,23 +1,8 @@
 -- How the verdict on two captures is computed from the definitions: both go as far as they can, and the record that is then refused is named.
-use Rattle.std.proofs.Common.{◌≡◌, Option, Some, None, List, [], ◌∷◌, ◌++◌, length, refl, sym, subst, ◌∙◌}
-use Rattle.std.proofs.lemmas.Option.{same_Some}
-use Rattle.std.proofs.lemmas.List.{append-nil}
-use Rattle.two_nodes.specs.Nodes.{Made, Waits, Refused, exchanged_world}
-use Rattle.two_nodes.proofs.Order.{exchange}
-use Rattle.two_nodes.proofs.Closed.{exchange_run}
-use Rattle.two_nodes.proofs.Blame.{no_run_of_refused}
-use Rattle.two_nodes.proofs.Listed.{next_offends}
-use Rattle.wire_base.specs.declared.side.Side.TheVariants.{A, B}
-use Rattle.capture_record.specs.declared.record.Record.{Record}
-use Rattle.dna_station.specs.declared.head.Head.{Head}
-use Rattle.dna_node.specs.declared.finding.Cause.TheVariants.{Step}
-use Rattle.dna_node.specs.declared.finding.Finding.{Finding}
+use Rattle.dna_rows.proofs.Prelude.{◌≡◌, Option, Some, None, List, [], ◌∷◌, ◌++◌, length, refl, sym, subst, ◌∙◌, same_Some, append-nil, Made, Waits}
+use Rattle.dna_rows.proofs.Prelude.{Refused, exchanged_world, exchange, exchange_run, no_run_of_refused, next_offends, A, B, Record, Head, Step}
+use Rattle.dna_rows.proofs.Prelude.{Finding, new_layers_node, layers_pair, layers_start, layers_tell, both_layers, IsVerdict}
 use Rattle.dna_node.specs.declared.finding.Finding.TheVariants as finding
-use Rattle.dna_node.specs.Layers.{new_layers_node}
-use Rattle.dna_node.specs.LayersPair.{layers_pair, layers_start}
-use Rattle.dna_node.specs.inner.Tells.{layers_tell}
-use Rattle.dna_node.specs.Kind.{both_layers}
-use Rattle.dna_node.specs.Verdict.{IsVerdict}
 use Rattle.dna_rows.proofs.Courses.{head_1, head_2, course, at_a, at_b}
 use Rattle.dna_rows.proofs.Courses as any
 

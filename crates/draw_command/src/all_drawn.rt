@@ -4,7 +4,6 @@ ghost use Rattle.std.specs.Prelude.{◌≤◌};
 ghost use Rattle.drawing.specs.declared.range.TheConstants.{MAX_ROWS};
 
 use crate::all_draw::AllFound;
-use crate::picture::let_go;
 use all_answer::all_judged::{AllFault, in_memory};
 use all_answer::all_pair::{Left, LeftTexts, PairCaptures, judge_texts, stopped_at};
 use all_answer::all_stops::{Stops, put_end};
@@ -124,7 +123,7 @@ fn with_rows(
             is_shown: rows.is_whole && is_shown,
         }),
         Err(fault) => {
-            let_go(ends);
+            ends.let_go();
             Err(fault)
         }
     }
@@ -212,7 +211,7 @@ fn verdict_on(
     ) {
         Ok(watched) => {
             let verdict = watched.ends.verdict();
-            let_go(watched.ends);
+            watched.ends.let_go();
             Ok(verdict)
         }
         Err(fault) => Err(fault),

@@ -6,7 +6,7 @@ ghost use Rattle.drawing.specs.declared.range.TheConstants.{MAX_ROWS};
 use crate::all_draw::{AllFound, all_found, all_marked, all_words, marked_rows};
 use crate::all_drawn::{AllDrawn, all_drawn};
 use crate::draw::draw_rows_to;
-use crate::picture::{Above, NoPicture, let_go, picture_of, svg_below};
+use crate::picture::{Above, NoPicture, picture_of, svg_below};
 use all_answer::all_judged::AllFault;
 use all_answer::all_pair::{PairCaptures, Telling};
 use all_answer::all_stops::OfLine;
@@ -129,7 +129,7 @@ fn draw_all<R: Files + AllocGlobal, O: Write, E: Write>(
                 refusals: all.refusals.as_slice(),
             };
             let status = print_all(rt, asked, shown, a, b, out, err);
-            let_go(drawn.pair.ends);
+            drawn.pair.ends.let_go();
             status
         }
         Err(fault) => Ok(print_all_fault(alloc, fault, err)),

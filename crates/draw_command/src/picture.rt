@@ -57,7 +57,7 @@ pub fn picture_of<A: Read + Seek, B: Read + Seek>(
     };
     let svg = svg_of(alloc, range.layers, &pair, a, b, title);
     let verdict = pair.ends.verdict();
-    let_go(pair.ends);
+    pair.ends.let_go();
     match svg {
         Ok(svg) => Ok(Picture { verdict, svg }),
         Err(why) => match why {
@@ -164,10 +164,6 @@ fn verdict_words(alloc: Global, verdict: Verdict) -> Result<String, AllocError> 
         }
     }
 }
-
-/// Drops both ends. Where a function holds them and ends in several ways, the proof follows each way through the drop of all their parts; here it
-/// does so once.
-pub(crate) fn let_go(_ends: JudgedEnds) {}
 
 // What is said of the check that the refused record does not pass, as an object; nothing where none is refused.
 fn check_words(

@@ -1,3 +1,4 @@
 pub mod Edited
+pub mod Mistakes
 pub mod Reader
 pub mod inner

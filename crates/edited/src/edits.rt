@@ -9,7 +9,7 @@ use std::alloc::{AllocError, Global};
 use wire_base::Side;
 
 /// How many edits are tried at most.
-pub const MAX_EDITS: usize = 64;
+pub const MAX_EDITS: usize = 96;
 
 /// The changes of one side's capture that undo a mistake.
 #[derive(Drop)]

@@ -1,5 +1,8 @@
 //! Mistakes of a recorder, and their words.
 
+ghost use Rattle.std.specs.Prelude.{◌≡◌};
+ghost use Rattle.edited.specs.Mistakes.{line_of_mistake};
+
 use capture_record::{Entry, Fate};
 use std::fmt;
 use wire_base::Side;
@@ -68,6 +71,25 @@ pub enum Mistake {
 }
 
 impl Mistake {
+    /// The line that it changes, or before which one is missing, counted from 1: of a line that comes too early or too late, that line.
+    pub fn line(&self) -> u64
+        ensures { result ≡ line_of_mistake self.now }
+    {
+        match *self {
+            Mistake::WrongLetter { line, .. } => line,
+            Mistake::BootAsHalt { line } => line,
+            Mistake::SentMissing { before, .. } => before,
+            Mistake::ReceiptMissing { before, .. } => before,
+            Mistake::DamagedMissing { before, .. } => before,
+            Mistake::NoiseMissing { before } => before,
+            Mistake::UserMissing { before, .. } => before,
+            Mistake::TooLate { line, .. } => line,
+            Mistake::TooEarly { line, .. } => line,
+            Mistake::WrongHint { line, .. } => line,
+            Mistake::WrongHints { line, .. } => line,
+        }
+    }
+
     // The first one of two neighbouring lines that change places; `None` of another mistake.
     pub(crate) fn exchanged(&self) -> Option<u64> {
         let (first, second) = match *self {

@@ -7,6 +7,7 @@ mod hints;
 mod letters;
 mod missing;
 mod moves;
+mod receipts;
 
 use crate::edits::Edits;
 use crate::row::{Refused, Row, Stretch};
@@ -36,6 +37,7 @@ enum Group {
     Letters,
     Sent,
     Receipts,
+    Earlier,
     User,
     Moves,
     Hints,
@@ -98,7 +100,8 @@ fn add_near(edits: &mut Edits, near: Near<'_>, refused: &Refused) -> Result<(), 
         match group {
             Group::Letters => letters::add_letters(edits, near)?,
             Group::Sent => missing::add_sent(edits, near)?,
-            Group::Receipts => missing::add_receipts(edits, near, refused.damage)?,
+            Group::Receipts => receipts::add_receipts(edits, near, refused.damage)?,
+            Group::Earlier => receipts::add_earlier_receipts(edits, near, refused.damage)?,
             Group::User => missing::add_user(edits, near, &refused.due)?,
             Group::Moves => moves::add_moves(edits, near)?,
             Group::Hints => hints::add_hints(edits, near)?,
@@ -120,17 +123,17 @@ fn place_of(rows: &[Row], line: u64) -> Option<usize>
     None
 }
 
-// What a reason comes from, mostly, first.
-fn order(reason: u64) -> [Group; 7] {
+// What a reason comes from, mostly, first; last come receipts that are missing further in front.
+fn order(reason: u64) -> [Group; 8] {
     let [letters, sent, receipts] = [Group::Letters, Group::Sent, Group::Receipts];
     let [user, moves, hints] = [Group::User, Group::Moves, Group::Hints];
-    let anew = Group::Anew;
+    let [anew, earlier] = [Group::Anew, Group::Earlier];
     match reason {
-        2 => [hints, sent, letters, moves, receipts, user, anew],
-        3..=5 => [sent, hints, moves, letters, receipts, user, anew],
-        6 | 14 => [user, anew, receipts, moves, letters, sent, hints],
-        7 => [sent, receipts, moves, letters, user, hints, anew],
-        18..=26 => [user, anew, letters, moves, receipts, sent, hints],
-        _ => [letters, moves, receipts, sent, hints, user, anew],
+        2 => [hints, sent, letters, moves, receipts, user, anew, earlier],
+        3..=5 => [sent, hints, moves, letters, receipts, user, anew, earlier],
+        6 | 14 => [user, anew, receipts, moves, letters, sent, hints, earlier],
+        7 => [sent, receipts, moves, letters, user, hints, anew, earlier],
+        18..=26 => [user, anew, letters, moves, receipts, sent, hints, earlier],
+        _ => [letters, moves, receipts, sent, hints, user, anew, earlier],
     }
 }

@@ -29,7 +29,7 @@ impl Row {
     pub(crate) fn is_told_by_distance(&self) -> bool {
         match self.form {
             HintForm::Distance { mark: _ } => true,
-            HintForm::Number | HintForm::Wide => false,
+            HintForm::Number | HintForm::Wide | HintForm::Part => false,
         }
     }
 

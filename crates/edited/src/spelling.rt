@@ -22,7 +22,7 @@ pub(crate) fn line_of(
 }
 
 // The line of a receipt of this unit with the bytes, in the place of this row or in front of it; `None` where its distance would be negative,
-// which no right hint has.
+// which no right hint has, and in a part of a run, which is not edited.
 pub(crate) fn receipt_line(
     alloc: Global,
     form: HintForm,
@@ -33,7 +33,7 @@ pub(crate) fn receipt_line(
     let hint = match form {
         HintForm::Number | HintForm::Wide => unit,
         HintForm::Distance { mark } if mark <= unit => unit - mark,
-        HintForm::Distance { mark: _ } => return Ok(None),
+        HintForm::Distance { mark: _ } | HintForm::Part => return Ok(None),
     };
     line_of(alloc, Entry::Received { fate, hint }, bytes)
 }

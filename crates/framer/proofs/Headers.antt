@@ -70,7 +70,8 @@ header_found held more kind strays unit rest left long found = at (header_on hel
     at : (front (held ++ more) ≡ Cut) ⊎ ((len : ℕ) × (front (held ++ more) ≡ Whole len)) → length (held ++ more) ≡ length unit + length rest
     at (inl cut) = let none = ap length (sym (at-cut 0 (held ++ more) cut) ∙ places) in absurd (omega arith)
     at (inr whole) =
-        let first : 0 ≡ 0 + (length (held ++ more) - length (unit ++ rest)) = ap first_place (sym (at-whole 0 (held ++ more) whole.0 whole.1) ∙ places) in
+        let first : 0 ≡ 0 + (length (held ++ more) - length (unit ++ rest)) =
+        ap first_place (sym (at-whole 0 (held ++ more) whole.0 whole.1) ∙ places) in
         let ends = ends_len (held ++ more) (unit ++ rest) found.passed.ends in
         omega (arith, length-append unit rest)
 

@@ -135,7 +135,8 @@ goes_on place n bytes behind more f e same long =
     rw left (same_at _ _ (left_of behind ++ more) at)
 
 pub at-append : (place : ℕ) (bytes more : List ℕ) →
-    units_at place (bytes ++ more) ≡ units_at place bytes ++ units_at (place + (length bytes - length (framing bytes).left)) ((framing bytes).left ++ more)
+    units_at place (bytes ++ more) ≡ units_at place bytes
+    ++ units_at (place + (length bytes - length (framing bytes).left)) ((framing bytes).left ++ more)
 at-append place bytes more = along (Joins more) kept at_none bytes place
   where
     at_none : Joins more []

@@ -6,16 +6,17 @@ use crate::told::Sending;
 use std::alloc::{AllocError, Global};
 use wire_base::Side;
 
-/// The longest words in the middle of a row, in columns.
+/// The words for which the middle of a row has room while both bars are in their places, in columns.
 pub const WORDS: usize = 30;
 
-/// The words of a unit that was sent, and of what came of it in its row, if that reads as something else. They go without those of packets where
-/// they would be too long. `AllocError` where there is no memory for them, as of the other words.
+/// The words of a unit that was sent, and of what came of it in its row, if that reads as something else. Those go without the words of packets
+/// where they would be longer than the room. `AllocError` where there is no memory for them, as of the other words.
 pub fn sent_words(
     alloc: Global,
     said: Said,
     again: bool,
     fate: Fate,
+    room: usize,
 ) -> Result<String, AllocError> {
     let front = match again {
         true => "again ",
@@ -24,7 +25,7 @@ pub fn sent_words(
     match fate {
         Fate::Here(receipt) if receipt.said != said => {
             let words = damaged_words(alloc, front, said, receipt.said)?;
-            if words.len() <= WORDS {
+            if words.len() <= room {
                 return Ok(words);
             }
             damaged_words(alloc, front, said.brief(), receipt.said.brief())
@@ -54,16 +55,18 @@ impl Received {
     }
 }
 
-/// The words of a unit whose sending is in another row. They go without those of its packet where they would be too long.
+/// The words of a unit whose sending is in another row. They go without those of its packet where they would be too long: the row of the sending
+/// has these, if that is known.
 pub fn came_words(
     alloc: Global,
     sender: Side,
     hint: u64,
     came: Received,
     sent: Option<Sending>,
+    room: usize,
 ) -> Result<String, AllocError> {
     let Some(sending) = sent else {
-        return unit_words(alloc, sender, hint, came);
+        return unit_words(alloc, sender, hint, came, room);
     };
     let words = of_line(alloc, sender, sending, came)?;
     if words.len() <= WORDS {
@@ -82,9 +85,10 @@ fn unit_words(
     sender: Side,
     hint: u64,
     came: Received,
+    room: usize,
 ) -> Result<String, AllocError> {
     let words = of_unit(alloc, sender, hint, came)?;
-    if words.len() <= WORDS {
+    if words.len() <= room {
         return Ok(words);
     }
     of_unit(alloc, sender, hint, came.brief())

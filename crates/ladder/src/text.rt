@@ -9,14 +9,39 @@ use crate::told::What;
 use std::alloc::{AllocError, Global};
 use wire_base::Side;
 
-// A line number and the note beside it have these columns together, with a space between.
-const CELL: usize = 20;
+// A side has so many columns, and the middle 34, where all words have room so.
+const SIDE: usize = 22;
 
-// A cell on the left that is empty.
-const NO_CELL: &str = "                      ";
+// All of them without both bars.
+const TOGETHER: usize = 78;
 
-// A middle that is empty.
-const BLANK: &str = "                                  ";
+// How many columns each side of a row has.
+#[derive(Clone, Copy)]
+struct Columns {
+    a: usize,
+    b: usize,
+}
+
+impl Columns {
+    // So many at this side, and as always at the other.
+    fn with(side: Side, columns: usize) -> Columns {
+        match side {
+            Side::A => Columns {
+                a: columns,
+                b: SIDE,
+            },
+            Side::B => Columns {
+                a: SIDE,
+                b: columns,
+            },
+        }
+    }
+
+    // Those between both bars.
+    fn middle(self) -> usize {
+        TOGETHER.saturating_sub(self.a).saturating_sub(self.b)
+    }
+}
 
 impl Row {
     /// The text of the row, with no line feed: `LINE note |34 columns| note LINE`, a on the left and b on the right, in 80 columns, and
@@ -26,28 +51,64 @@ impl Row {
     ///
     /// In the middle is what was sent, as `DATA 2/1`, with `again` before it where it was sent before, and `~` before what came in its
     /// place; then `>` or `<` where it comes in this row, `.` where in another one, and `x` where it never comes. A packet that is never sent has
-    /// a short one, as `- packet CI 1 -|`. Words for which there is no room are cut, and end in `..`:
+    /// a short one, as `- packet CI 1 -|`. Where words have no room, the bar beside them moves: that at the side which sent, or that of what
+    /// its user did. Words that still have none are cut, and end in `..`:
     ///
     /// `    21           kept |<-------- again DATA 2/1 ---------|                21`
     pub fn text(&self, alloc: Global, ended: bool) -> Result<String, AllocError> {
-        let left = left(alloc, self.cell(Side::A))?;
-        let middle = self.middle(alloc, ended)?;
-        let right = right(alloc, self.cell(Side::B))?;
+        let room = WORDS.saturating_add(self.spare(alloc)?);
+        let all = self.words(alloc, room)?;
+        let words = fitted(alloc, all.as_str(), room)?;
+        let columns = self.columns(alloc, words.len())?;
+        let left = left(alloc, self.cell(Side::A), columns.a)?;
+        let middle = self.middle(alloc, words.as_str(), ended, columns.middle())?;
+        let right = right(alloc, self.cell(Side::B), columns.b)?;
+        let width = columns.b;
         match self.refused {
-            true => format!(in alloc; "{left}|{middle}|{right:<22}  <== refused"),
+            true => format!(in alloc; "{left}|{middle}|{right:<width$}  <== refused"),
             false => format!(in alloc; "{left}|{middle}|{right}"),
         }
     }
 
-    // The 34 columns between the sides.
-    fn middle(&self, alloc: Global, ended: bool) -> Result<String, AllocError> {
+    // The side whose columns the words in the middle may take: that which sent.
+    fn sender(&self) -> Side {
         match self.told.what {
-            What::User { .. } => String::from_str(alloc, BLANK),
-            What::Composed { content } => never_sent(alloc, self.told.side, content),
-            What::Sent { said, again, .. } => {
-                let words = sent_words(alloc, said, again, self.fate)?;
-                sending(alloc, self.told.side, words.as_str(), self.end(ended))
-            }
+            What::Sent { .. } | What::Composed { .. } | What::User { .. } => self.told.side,
+            What::Came { .. } | What::Noise { .. } => self.told.side.other(),
+        }
+    }
+
+    // How many of that side's columns its line number leaves, with a space beside it.
+    fn spare(&self, alloc: Global) -> Result<usize, AllocError> {
+        let free = SIDE.saturating_sub(1);
+        match self.cell(self.sender()) {
+            Some(Cell { line, .. }) => Ok(free.saturating_sub(number_columns(alloc, line)?)),
+            None => Ok(free),
+        }
+    }
+
+    // The columns of both sides, where so many letters are in the middle.
+    fn columns(&self, alloc: Global, letters: usize) -> Result<Columns, AllocError> {
+        let side = self.sender();
+        let What::User { .. } = self.told.what else {
+            let taken = letters.saturating_sub(WORDS);
+            return Ok(Columns::with(side, SIDE.saturating_sub(taken)));
+        };
+        let Some(Cell { line, note }) = self.cell(side) else {
+            return Ok(Columns::with(side, SIDE));
+        };
+        let words = format!(in alloc; "{note}")?;
+        let number = number_columns(alloc, line)?;
+        let wanted = number.saturating_add(words.len()).saturating_add(2);
+        Ok(Columns::with(side, wanted.max(SIDE)))
+    }
+
+    // The words in the middle, which have so much room.
+    fn words(&self, alloc: Global, room: usize) -> Result<String, AllocError> {
+        match self.told.what {
+            What::User { .. } => Ok(String::new(alloc)),
+            What::Composed { content } => format!(in alloc; "packet{content}"),
+            What::Sent { said, again, .. } => sent_words(alloc, said, again, self.fate, room),
             What::Came {
                 hint,
                 said,
@@ -58,24 +119,50 @@ impl Row {
                     said,
                     changed: self.changed,
                 };
-                let words = came_words(alloc, self.told.side.other(), hint, came, sent)?;
-                receipt(alloc, self.told.side, words.as_str())
+                came_words(alloc, self.told.side.other(), hint, came, sent, room)
             }
-            What::Noise { said } => {
-                let words = format!(in alloc; "noise ~{said}")?;
-                receipt(alloc, self.told.side, words.as_str())
-            }
+            What::Noise { said } => format!(in alloc; "noise ~{said}"),
+        }
+    }
+
+    // What is between the sides, in so many columns.
+    fn middle(
+        &self,
+        alloc: Global,
+        words: &str,
+        ended: bool,
+        columns: usize,
+    ) -> Result<String, AllocError> {
+        let side = self.told.side;
+        let body = format!(in alloc; " {words} ")?;
+        let arrow = columns.saturating_sub(1);
+        match self.told.what {
+            What::User { .. } => format!(in alloc; "{:columns$}", ""),
+            What::Composed { .. } => never_sent(alloc, side, body.as_str()),
+            What::Sent { .. } => sending(alloc, side, body.as_str(), self.end(ended), arrow),
+            What::Came { .. } | What::Noise { .. } => receipt(alloc, side, body.as_str(), arrow),
         }
     }
 }
 
+// The columns of a line number.
+fn number_columns(alloc: Global, line: u64) -> Result<usize, AllocError> {
+    let number = format!(in alloc; "{line:>6}")?;
+    Ok(number.len())
+}
+
 // An arrow from the side that sent.
-fn sending(alloc: Global, sender: Side, words: &str, end: End) -> Result<String, AllocError> {
-    let body = spaced(alloc, words)?;
+fn sending(
+    alloc: Global,
+    sender: Side,
+    body: &str,
+    end: End,
+    columns: usize,
+) -> Result<String, AllocError> {
     let mark = mark(sender, end);
     match sender {
-        Side::A => format!(in alloc; "{body:-^33}{mark}"),
-        Side::B => format!(in alloc; "{mark}{body:-^33}"),
+        Side::A => format!(in alloc; "{body:-^columns$}{mark}"),
+        Side::B => format!(in alloc; "{mark}{body:-^columns$}"),
     }
 }
 
@@ -90,18 +177,20 @@ fn mark(sender: Side, end: End) -> &'static str {
 }
 
 // The end of an arrow, at the side where it came.
-fn receipt(alloc: Global, receiver: Side, words: &str) -> Result<String, AllocError> {
-    let body = spaced(alloc, words)?;
+fn receipt(
+    alloc: Global,
+    receiver: Side,
+    body: &str,
+    columns: usize,
+) -> Result<String, AllocError> {
     match receiver {
-        Side::A => format!(in alloc; "<{body:.^33}"),
-        Side::B => format!(in alloc; "{body:.^33}>"),
+        Side::A => format!(in alloc; "<{body:.^columns$}"),
+        Side::B => format!(in alloc; "{body:.^columns$}>"),
     }
 }
 
 // What a packet that is never sent has for an arrow.
-fn never_sent(alloc: Global, side: Side, content: Content) -> Result<String, AllocError> {
-    let words = format!(in alloc; "packet{content}")?;
-    let body = spaced(alloc, words.as_str())?;
+fn never_sent(alloc: Global, side: Side, body: &str) -> Result<String, AllocError> {
     match side {
         Side::A => {
             let arrow = format!(in alloc; "-{body}-|")?;
@@ -114,12 +203,6 @@ fn never_sent(alloc: Global, side: Side, content: Content) -> Result<String, All
     }
 }
 
-// The words with a space on both sides, cut to fit.
-fn spaced(alloc: Global, words: &str) -> Result<String, AllocError> {
-    let words = fitted(alloc, words, WORDS)?;
-    format!(in alloc; " {words} ")
-}
-
 /// Words that are no longer than the room for them; what is cut ends in `..`. `AllocError` where there is no memory for them.
 pub fn fitted(alloc: Global, words: &str, room: usize) -> Result<String, AllocError> {
     if words.len() <= room {
@@ -129,26 +212,26 @@ pub fn fitted(alloc: Global, words: &str, room: usize) -> Result<String, AllocEr
     format!(in alloc; "{words:.kept$}..")
 }
 
-// The cell on the left, of 22 columns.
-fn left(alloc: Global, cell: Option<Cell>) -> Result<String, AllocError> {
+// The cell on the left, of so many columns.
+fn left(alloc: Global, cell: Option<Cell>, columns: usize) -> Result<String, AllocError> {
     let Some(Cell { line, note }) = cell else {
-        return String::from_str(alloc, NO_CELL);
+        return format!(in alloc; "{:columns$}", "");
     };
     let number = format!(in alloc; "{line:>6}")?;
-    let room = CELL.saturating_sub(number.len());
+    let room = columns.saturating_sub(number.len()).saturating_sub(2);
     let words = note_words(alloc, note, room)?;
     format!(in alloc; "{number} {words:>room$} ")
 }
 
 // The cell on the right, with no spaces at its end.
-fn right(alloc: Global, cell: Option<Cell>) -> Result<String, AllocError> {
+fn right(alloc: Global, cell: Option<Cell>, columns: usize) -> Result<String, AllocError> {
     let Some(Cell { line, note }) = cell else {
         return Ok(String::new(alloc));
     };
-    let number = format!(in alloc; "{line}")?;
-    let room = CELL.saturating_sub(number.len().max(6));
+    let number = number_columns(alloc, line)?;
+    let room = columns.saturating_sub(number).saturating_sub(2);
     let words = note_words(alloc, note, room)?;
-    format!(in alloc; " {words:<room$} {number}")
+    format!(in alloc; " {words:<room$} {line}")
 }
 
 // The words of a note, cut to fit.

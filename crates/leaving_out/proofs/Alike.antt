@@ -10,7 +10,7 @@ use Rattle.wire_base.specs.declared.side.Side.{Side}
 use Rattle.capture_record.specs.declared.event.Event.TheVariants as events
 use Rattle.capture_record.specs.declared.fate.Fate.TheVariants.{NotKept, Kept, Dropped}
 use Rattle.capture.specs.declared.fault.Departure.{Departure}
-use Rattle.capture.specs.declared.fault.Departure.TheVariants.{Syntax, TooLong, TooMany}
+use Rattle.capture.specs.declared.fault.Departure.TheVariants.{Syntax, TooLong, TooMany, Part}
 use Rattle.capture.specs.declared.format.Format.TheVariants.{Three}
 use Rattle.capture.specs.declared.hint.HintForm.{HintForm}
 use Rattle.capture.specs.declared.hint.HintForm.TheVariants.{Wide}
@@ -64,6 +64,8 @@ departs_as : (form : HintForm) (n : ℕ) (kind : Departure) (bytes : List ℕ) �
     RecordDeparts Wide n kind (departing kind)
 departs_as form n TooMany bytes (inl line) = inl (line.0, λ e. absurd cc)
 departs_as form n TooMany bytes (inr words) = absurd words.2
+departs_as form n Part bytes (inl line) = absurd line
+departs_as form n Part bytes (inr words) = absurd words.2
 departs_as form n TooLong bytes (inl line) = inl (line.0, is_too_long)
 departs_as form n TooLong bytes (inr words) = inl (words.0, is_too_long)
 departs_as form n Syntax bytes (inl line) = inr (line.0, record { short = omega arith; ended = refl }, λ r spelling is fits. no_words r is)

@@ -24,7 +24,8 @@ use Rattle.leaving_out.specs.declared.leaving.Leaving.{Leaving}
 use Rattle.leaving_out.specs.declared.packet_left.Route.{Route}
 use Rattle.leaving_out.specs.Messages.{is_returned}
 use Rattle.leaving_out.specs.Packets.{route_of}
-use Rattle.leaving_out.specs.Fitted.{is_moved, packet_fitted, packet_fitted_by, packet_on, record_fitted, records_fitted, route_fitted, unit_fitted, unit_fitted_by}
+use Rattle.leaving_out.specs.Fitted.{is_moved, packet_fitted, packet_fitted_by, packet_on}
+use Rattle.leaving_out.specs.Fitted.{record_fitted, records_fitted, route_fitted, unit_fitted, unit_fitted_by}
 use Rattle.leaving_out.proofs.Kept.{IsBody, IsKept, IsUnitKept, body_of, if_kept, low_fits, same_kept, spelled_kept}
 use Rattle.leaving_out.proofs.Made.{wide}
 use Rattle.leaving_out.proofs.Returned.{not_returned, returned}

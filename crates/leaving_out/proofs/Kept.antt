@@ -175,7 +175,8 @@ pub record IsBody (flags : Flags) (resp num : ℕ) (body : List ℕ) : Type 0 wh
   pub resp_fits : resp < 256
   pub num_fits : num < 256
 
-pub body_of : (unit : List ℕ) (flags : Flags) (resp num : ℕ) (body : List ℕ) → IsBytes unit → reading unit ≡ Sound (messages.Data flags resp num body) →
+pub body_of : (unit : List ℕ) (flags : Flags) (resp num : ℕ) (body : List ℕ) → IsBytes unit →
+    reading unit ≡ Sound (messages.Data flags resp num body) →
     IsBody flags resp num body
 unfolding spelling
 body_of unit flags resp num body fits e =
@@ -195,7 +196,8 @@ pub record IsUnitKept (new : List ℕ) : Type 0 where
   pub short : length new ≤ 16393
   pub bytes : IsBytes new
 
-pub spelled_kept : (flags : Flags) (resp num : ℕ) (body : List ℕ) → IsBody flags resp num body → IsUnitKept (spelling (messages.Data flags resp num body))
+pub spelled_kept : (flags : Flags) (resp num : ℕ) (body : List ℕ) → IsBody flags resp num body →
+    IsUnitKept (spelling (messages.Data flags resp num body))
 unfolding spelling
 spelled_kept flags resp num body h =
     let head = numbered (length body) flags resp num in

@@ -21,7 +21,8 @@ use Rattle.leaving_out.specs.declared.leaving.Leaving.{Leaving}
 use Rattle.leaving_out.specs.declared.packet_left.Route.{Route}
 use Rattle.leaving_out.specs.Addresses.{at_receiver, at_sender, head_of, is_left}
 use Rattle.leaving_out.specs.Messages.{destination_of, if_read, is_returned, message_in_packet, message_of, source_of}
-use Rattle.leaving_out.specs.Packets.{BeginsShort, NamesBothLinks, link_left, message_left, names_both, packet_left, packet_left_by, packet_with, route_of, unmet}
+use Rattle.leaving_out.specs.Packets.{BeginsShort, NamesBothLinks, link_left, message_left, names_both}
+use Rattle.leaving_out.specs.Packets.{packet_left, packet_left_by, packet_with, route_of, unmet}
 
 -- the packet of a message that no link meets is a routing control packet
 unmet_control : (first : ℕ) (rest : List ℕ) → first < 128 → first % 8 ≡ 2 → packet_at (unmet (first ∷ rest)) ≡ Ok (Control (unmet (first ∷ rest)))

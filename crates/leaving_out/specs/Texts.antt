@@ -7,7 +7,7 @@ use Rattle.wire_base.specs.declared.side.Side.{Side}
 use Rattle.capture.specs.declared.fault.CaptureFault.{CaptureFault}
 use Rattle.capture.specs.declared.fault.CaptureFault.TheVariants.{Departs, Read, OutOfMemory, Failed}
 use Rattle.capture.specs.declared.fault.Departure.{Departure}
-use Rattle.capture.specs.declared.fault.Departure.TheVariants.{Syntax, TooLong, TooMany}
+use Rattle.capture.specs.declared.fault.Departure.TheVariants.{Syntax, TooLong, TooMany, Part}
 use Rattle.capture.specs.declared.format.Format.TheVariants.{Three}
 use Rattle.capture.specs.declared.limit.TheConstants.{MAX_LINE}
 use Rattle.capture_record.specs.declared.record.Record.{Record}
@@ -37,11 +37,12 @@ EndsOrDeparts read = (read.behind ≡ TheEnd) ⊎ ((kind : Departure) × Departs
 unfoldable pub too_long_line : List ℕ
 too_long_line = replicate (MAX_LINE + 1) 63 ++ 10 ∷ []
 
--- A line that departs in this way; one after as many as a text may have departs whatever it is.
+-- A line that departs in this way; one after as many as a text may have departs whatever it is. As the head of a part of a run only a head departs.
 abbrev pub departing : Departure → List ℕ
 departing Syntax = codes "?\n"
 departing TooLong = too_long_line
 departing TooMany = codes "?\n"
+departing Part = codes "?\n"
 
 -- the text, in format 3, of what becomes of the records that were read
 abbrev pub text_left : Leaving → Side → ReadSoFar → List ℕ

@@ -59,8 +59,8 @@ fn reversed(head: Head) -> Head
 
 /// The text of format 3, in memory, in which both heads are that of the `kept` side, and all that is right goes between its nodes: a packet of a
 /// message that is judged at its sender, where it goes from the node of the sender's head to its peer; and one of any other message, where it goes so
-/// by the receiver's head. No other packet becomes one that does. That the receiver of a judged message refuses its nodes is not seen any more: such a
-/// record is found in the captures themselves ([`wrong_node_at`](crate::wrong_node_at)).
+/// by the receiver's head. No other packet becomes one that does. That the receiver of a judged message refuses its nodes is not seen any more: such
+/// a record is found in the captures themselves ([`wrong_node_at`](crate::wrong_node_at)).
 ///
 /// All else stays as it is, and what departs from the format and each fault are as for [`left_out`](crate::left_out).
 pub fn fitted<R: Read>(
@@ -119,7 +119,8 @@ fn put_fitted(
     bytes: &[u8],
 ) -> Result<(), AllocError>
     requires { IsRecord (record_with entry bytes.now) }
-    ensures { OnOk result (text.new.items ≡ text.old.items ++ record_line Wide (spec.record_fitted leaving.now kept side (record_with entry bytes.now))) }
+    ensures { OnOk result (
+        text.new.items ≡ text.old.items ++ record_line Wide (spec.record_fitted leaving.now kept side (record_with entry bytes.now))) }
 {
     match entry {
         Entry::Sent => {

@@ -54,7 +54,7 @@ pub fn left_out<R: Read>(
     unreachable!()
 }
 
-/// A line that departs in this way, as one behind the most that a text has departs whatever it is.
+/// A line that departs in this way, as one behind the most that a text has departs whatever it is; as a part's head only a head departs.
 pub(crate) fn put_departure(
     alloc: Global,
     text: &mut Vec<u8>,
@@ -64,7 +64,7 @@ pub(crate) fn put_departure(
 {
     match kind {
         Departure::Syntax => text.extend_from_slice(b"?\n"),
-        Departure::TooMany => text.extend_from_slice(b"?\n"),
+        Departure::TooMany | Departure::Part => text.extend_from_slice(b"?\n"),
         Departure::TooLong => put_too_long(alloc, text),
     }
 }

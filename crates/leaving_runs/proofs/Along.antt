@@ -1,27 +1,9 @@
 -- What is to be shown of a record that is made at one node beside the other: the links meet one of their records, and what is left of the record is
 -- made of what is left.
-use Rattle.std.proofs.Common.{◌≡◌, ℕ, ◌≤◌, ◌<◌, not, Ok, length, refl}
-use Rattle.std.proofs.Common.{subst}
-use Rattle.two_nodes.specs.Nodes.{Half, Outcome, stepped, advance}
-use Rattle.two_nodes.specs.Nodes.Outcome.{Made}
-use Rattle.two_nodes.proofs.Order.{one_half}
-use Rattle.capture_record.specs.declared.record.Record.{Record}
-use Rattle.dna_station.specs.declared.refusal.StepRefusal.{StepRefusal}
-use Rattle.dna_station.specs.Station.{Station}
-use Rattle.dna_station.specs.Machine.{step}
-use Rattle.dna_links.specs.declared.queue.Queues.{Queues}
-use Rattle.dna_links.specs.TrueSegments.{Numbers}
-use Rattle.dna_links.specs.TrueLinks.{Links}
-use Rattle.dna_node.specs.TagRules.{judged_by}
-use Rattle.dna_node.specs.Layers.{Layers, LayersNode, LayersUnit, layers_machine}
-use Rattle.dna_node.specs.LayersPair.{side_of}
-use Rattle.dna_leaving.specs.Records.{LinkRecord, OfNoLink, true_rules, next_links}
-use Rattle.dna_leaving.specs.LeftOut.{is_out}
-use Rattle.dna_leaving.specs.Left.{Judged}
-use Rattle.dna_leaving.specs.Worlds.{other_out, other_judged}
-use Rattle.dna_leaving.proofs.Sides.{SideRight, RecordRight}
-use Rattle.leaving_runs.specs.Nodes.{Leaves, other_leaves, half_left}
-use Rattle.leaving_runs.specs.Records.{record_left}
+use Rattle.leaving_runs.proofs.Prelude.{◌≡◌, ℕ, ◌≤◌, ◌<◌, not, Ok, length, refl, subst, Half, Outcome, stepped, advance, Made, one_half, Record}
+use Rattle.leaving_runs.proofs.Prelude.{StepRefusal, Station, step, Queues, Numbers, Links, judged_by, Layers, LayersNode, LayersUnit}
+use Rattle.leaving_runs.proofs.Prelude.{layers_machine, side_of, LinkRecord, OfNoLink, true_rules, next_links, is_out, Judged, other_out}
+use Rattle.leaving_runs.proofs.Prelude.{other_judged, SideRight, RecordRight, Leaves, other_leaves, half_left, record_left}
 
 -- ---- what becomes of it
 

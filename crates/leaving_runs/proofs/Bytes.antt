@@ -1,26 +1,12 @@
 -- The bytes of what is left of a unit are read as what is left of its message; and what is read of a packet is its message.
-use Rattle.std.proofs.Common.{◌≡◌, ℕ, Bool, true, false, cond, Option, Some, None, Result, Ok, Err, List, length, ap, subst, ◌∙◌, arith}
-use Rattle.wire_base.specs.BlockCheck.{check_bytes}
-use Rattle.ddcmp_msg.specs.Message.{IsBytes, IsInRange, MessageValue, Data}
-use Rattle.ddcmp_msg.specs.Reading.{ReadingValue, Sound, HeaderBad, DataBad, reading}
-use Rattle.ddcmp_msg.specs.Spelling.{numbered, spelling, with_check}
-use Rattle.ddcmp_msg.proofs.Agreement.{by_rule}
-use Rattle.ddcmp_msg.proofs.ReadBack.{reading-spelling}
-use Rattle.ddcmp_msg.proofs.Units.{IsBytes-head, IsBytes-rest, spelled_once}
-use Rattle.dna_packet.specs.declared.fault.PacketFault.{PacketFault}
-use Rattle.dna_packet.specs.declared.fault.NspFault.{NspFault}
-use Rattle.dna_packet.specs.Packet.{PacketValue}
+use Rattle.leaving_runs.proofs.Prelude.{◌≡◌, ℕ, Bool, true, false, cond, Option, Some, None, Result, Ok, Err, List, length, ap, subst, ◌∙◌, arith}
+use Rattle.leaving_runs.proofs.Prelude.{check_bytes, IsBytes, IsInRange, MessageValue, Data, ReadingValue, reading, numbered, spelling, with_check}
+use Rattle.leaving_runs.proofs.Prelude.{by_rule, reading-spelling, IsBytes-head, IsBytes-rest, spelled_once, PacketFault, NspFault, PacketValue}
+use Rattle.leaving_runs.proofs.Prelude.{NspValue, packet_at, nsp_at, StepRefusal, SendPacket, change_of, body_of, Carried, content, content_of}
+use Rattle.leaving_runs.proofs.Prelude.{message_in, is_returned, message_in_packet, message_of, message_within, packet_of, if_read, with_body}
+use Rattle.leaving_runs.proofs.Prelude.{bytes_left, bytes_left_by}
+use Rattle.ddcmp_msg.specs.Reading.{Sound, HeaderBad, DataBad}
 use Rattle.dna_packet.specs.Packet as packets
-use Rattle.dna_packet.specs.Nsp.{NspValue}
-use Rattle.dna_packet.specs.ReadingPacket.{packet_at}
-use Rattle.dna_packet.specs.ReadingNsp.{nsp_at}
-use Rattle.dna_station.specs.declared.refusal.StepRefusal.{StepRefusal}
-use Rattle.dna_station.specs.Table.{SendPacket, change_of}
-use Rattle.dna_station.specs.Book.{body_of}
-use Rattle.dna_links.specs.Links.{Carried}
-use Rattle.dna_node.specs.Content.{content, content_of, message_in, is_returned}
-use Rattle.leaving_out.specs.Messages.{message_in_packet, message_of, message_within, packet_of, if_read}
-use Rattle.leaving_runs.specs.Stations.{with_body, bytes_left, bytes_left_by}
 
 -- the body of a message that was read is bytes
 pub body_bytes : (unit : List ℕ) (m : MessageValue) → IsBytes unit → reading unit ≡ Sound m → IsBytes (body_of m)

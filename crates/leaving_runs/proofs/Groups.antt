@@ -1,22 +1,11 @@
 -- Whole groups are alike.
-use Rattle.std.proofs.Common.{◌≡◌, ◌<◌, ◌^◌, Bool, true, false, Option, Some, None, List, [], ◌∷◌, refl, ap, arith}
-use Rattle.std.specs.List.{AllByRecursion, Contains, slice_get}
+use Rattle.leaving_runs.proofs.Prelude.{◌≡◌, ◌<◌, ◌^◌, Bool, true, false, Option, Some, None, List, [], ◌∷◌, refl, ap, arith, AllByRecursion}
+use Rattle.leaving_runs.proofs.Prelude.{Contains, Contains-append_left, Contains-append_right, Side, IsRecord, Record, Sent, Received, Noise, User}
+use Rattle.leaving_runs.proofs.Prelude.{OwnAddress, AreTogether, Binding, Bound, Back, AreWhole, place_of, Leaving, is_left, is_marked, binding_of}
+use Rattle.leaving_runs.proofs.Prelude.{bindings_of, if_bound, IsAlike, RecordAlike, AreAlike, AreAmong}
+use Rattle.std.specs.List.{slice_get}
 use Rattle.std.specs.Option.{IfSome}
-use Rattle.std.proofs.lemmas.List.Elements.{Contains-append_left, Contains-append_right}
-use Rattle.wire_base.specs.declared.side.Side.{Side}
-use Rattle.capture_record.specs.Range.{IsRecord}
 use Rattle.capture_record.specs.declared.event.Event.TheVariants as events
-use Rattle.capture_record.specs.declared.record.Record.{Record}
-use Rattle.capture_record.specs.declared.record.Record.TheVariants.{Sent, Received, Noise, User}
-use Rattle.link_groups.specs.declared.own_address.OwnAddress.{OwnAddress}
-use Rattle.link_groups.specs.Groups.{AreTogether, Binding}
-use Rattle.link_groups.specs.Groups.AreTogether.{Bound, Back}
-use Rattle.link_groups.specs.LeftOut.{AreWhole}
-use Rattle.link_groups.specs.Place.{place_of}
-use Rattle.leaving_out.specs.declared.leaving.Leaving.{Leaving}
-use Rattle.leaving_out.specs.Addresses.{is_left, is_marked}
-use Rattle.leaving_out.specs.About.{binding_of, bindings_of, if_bound}
-use Rattle.leaving_runs.specs.Tied.{IsAlike, RecordAlike, AreAlike, AreAmong}
 
 same_if : (a b : Bool) → (a ≡ true → b ≡ true) → (b ≡ true → a ≡ true) → a ≡ b
 same_if true true one other = refl

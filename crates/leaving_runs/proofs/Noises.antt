@@ -1,27 +1,9 @@
 -- What is left of noise.
-use Rattle.std.proofs.Common.{◌≡◌, ℕ, false, List}
-use Rattle.std.proofs.Common.{ap}
-use Rattle.std.proofs.Common.{◌∙◌}
-use Rattle.two_nodes.specs.Nodes.{Half, answered}
-use Rattle.two_nodes.specs.Nodes.Outcome.{Made}
-use Rattle.ddcmp_msg.specs.declared.nak_reason.NakReason.TheVariants.{HeaderCheck, DataCheck}
-use Rattle.ddcmp_msg.specs.Reading.{ReadingValue, reading}
+use Rattle.leaving_runs.proofs.Prelude.{◌≡◌, ℕ, false, List, ap, ◌∙◌, Half, answered, Made, HeaderCheck, DataCheck, ReadingValue, reading, Noise}
+use Rattle.leaving_runs.proofs.Prelude.{counts_damage, Station, HeaderBad, DataBad, after_arrival, noise_step, Queues, judged_by, Layers}
+use Rattle.leaving_runs.proofs.Prelude.{LayersNode, LayersUnit, layers_machine, side_of, OfNoLink, Judged, other_out, other_judged, SideRight}
+use Rattle.leaving_runs.proofs.Prelude.{Leaves, other_leaves, half_left, layers_left}
 use Rattle.ddcmp_msg.specs.Reading as read_as
-use Rattle.capture_record.specs.declared.record.Record.TheVariants.{Noise}
-use Rattle.dna_station.specs.Table.{counts_damage}
-use Rattle.dna_station.specs.Station.{Station}
-use Rattle.dna_station.specs.Book.{HeaderBad, DataBad}
-use Rattle.dna_station.specs.StationBook.{after_arrival}
-use Rattle.dna_station.specs.Machine.{noise_step}
-use Rattle.dna_links.specs.declared.queue.Queues.{Queues}
-use Rattle.dna_node.specs.TagRules.{judged_by}
-use Rattle.dna_node.specs.Layers.{Layers, LayersNode, LayersUnit, layers_machine}
-use Rattle.dna_node.specs.LayersPair.{side_of}
-use Rattle.dna_leaving.specs.Records.{OfNoLink}
-use Rattle.dna_leaving.specs.Left.{Judged}
-use Rattle.dna_leaving.specs.Worlds.{other_out, other_judged}
-use Rattle.dna_leaving.proofs.Sides.{SideRight}
-use Rattle.leaving_runs.specs.Nodes.{Leaves, other_leaves, half_left, layers_left}
 use Rattle.leaving_runs.proofs.Stations.{counted_left}
 use Rattle.leaving_runs.proofs.Along.{Along, along_at, along_station}
 

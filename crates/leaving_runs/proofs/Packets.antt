@@ -1,36 +1,18 @@
 -- What the program makes of packets is as it has to be.
-use Rattle.std.proofs.Common.{◌≡◌, ℕ, ◌-◌, ◌%◌, ◌<◌, Bool, true, false, not, ◌&&◌, ◌==◌, cond, eqb, leb, Option, Some, None, Result, Ok, Err, List}
-use Rattle.std.proofs.Common.{◌∷◌}
-use Rattle.std.proofs.Common.{refl, sym, ap, ap₂, ◌∙◌, arith, eqb-true}
-use Rattle.std.proofs.lemmas.Bool.{eq-eqb, lt-leb}
-use Rattle.wire_base.specs.declared.side.Side.{Side}
-use Rattle.wire_base.specs.Side.{other_side}
-use Rattle.ddcmp_msg.specs.Message.{IsBytes, IsInRange, MessageValue}
+use Rattle.leaving_runs.proofs.Prelude.{◌≡◌, ℕ, ◌-◌, ◌%◌, ◌<◌, Bool, true, false, not, ◌&&◌, ◌==◌, cond, eqb, leb, Option, Some, None, Result, Ok}
+use Rattle.leaving_runs.proofs.Prelude.{Err, List, ◌∷◌, refl, sym, ap, ap₂, ◌∙◌, arith, eqb-true, eq-eqb, lt-leb, Side, other_side, IsBytes}
+use Rattle.leaving_runs.proofs.Prelude.{IsInRange, MessageValue, reading, by_rule, PacketFault, NspFault, PacketValue, Control, packet_at, NspValue}
+use Rattle.leaving_runs.proofs.Prelude.{DataSegment, LinkService, DataAck, OtherDataAck, ConnectAck, NoOperation, ConnectInitiate, ConnectConfirm}
+use Rattle.leaving_runs.proofs.Prelude.{DisconnectInitiate, DisconnectConfirm, nsp_at, packet_takes, StepRefusal, Carried, content, content_of}
+use Rattle.leaving_runs.proofs.Prelude.{message_in, is_returned, Leaving, at_receiver, at_sender, head_of, is_left, own, link_left, packet_left}
+use Rattle.leaving_runs.proofs.Prelude.{packet_left_by, route_of, unmet, packet_kept, LeftOut, source_of, destination_of, sent_out, kept_out}
+use Rattle.leaving_runs.proofs.Prelude.{is_judged_there, message_out, other_out, with_body, PacketsFit, leaves_at, KnowsHead}
 use Rattle.ddcmp_msg.specs.Message as messages
-use Rattle.ddcmp_msg.specs.Reading.{reading, Sound}
-use Rattle.ddcmp_msg.proofs.Agreement.{by_rule}
-use Rattle.dna_packet.specs.declared.fault.PacketFault.{PacketFault}
-use Rattle.dna_packet.specs.declared.fault.NspFault.{NspFault}
-use Rattle.dna_packet.specs.Packet.{PacketValue, Data, Control}
-use Rattle.dna_packet.specs.ReadingPacket.{packet_at}
-use Rattle.dna_packet.specs.Nsp.{NspValue, DataSegment, LinkService, DataAck, OtherDataAck, ConnectAck, NoOperation, ConnectInitiate, ConnectConfirm}
-use Rattle.dna_packet.specs.Nsp.{DisconnectInitiate, DisconnectConfirm}
-use Rattle.dna_packet.specs.ReadingNsp.{nsp_at}
-use Rattle.dna_packet.proofs.PacketLemmas.{packet_takes}
-use Rattle.dna_station.specs.declared.refusal.StepRefusal.{StepRefusal}
+use Rattle.ddcmp_msg.specs.Reading.{Sound}
+use Rattle.dna_packet.specs.Packet.{Data}
 use Rattle.dna_station.specs.declared.head.Head as stations
-use Rattle.dna_links.specs.Links.{Carried}
-use Rattle.dna_node.specs.Content.{content, content_of, message_in, is_returned}
-use Rattle.leaving_out.specs.declared.leaving.Leaving.{Leaving}
-use Rattle.leaving_out.specs.Addresses.{at_receiver, at_sender, head_of, is_left, own}
 use Rattle.leaving_out.specs.Messages as program
-use Rattle.leaving_out.specs.Packets.{link_left, message_left, packet_left, packet_left_by, route_of, unmet}
-use Rattle.leaving_out.proofs.Kept.{packet_kept}
-use Rattle.dna_leaving.specs.LeftOut.{LeftOut, source_of, destination_of, sent_out, kept_out, is_judged_there, message_out}
-use Rattle.dna_leaving.specs.Worlds.{other_out}
-use Rattle.leaving_runs.specs.Stations.{with_body}
-use Rattle.leaving_runs.specs.Fitting.{PacketsFit}
-use Rattle.leaving_runs.specs.Tied.{leaves_at, KnowsHead}
+use Rattle.leaving_out.specs.Packets.{message_left}
 use Rattle.leaving_runs.proofs.Bytes.{body_bytes}
 
 -- ---- addresses of messages

@@ -1,53 +1,20 @@
 -- What is left of a unit that came, and of noise.
-use Rattle.std.proofs.Common.{◌≡◌, ℕ, ◌+◌, ◌≤◌, Bool, true, false, cond, nat_lt, ltb-false, Option, Some, None, Result, Ok, Err, List, refl, sym}
-use Rattle.std.proofs.Common.{ap, ap₂}
-use Rattle.std.proofs.Common.{◌∙◌, option_map, arith}
-use Rattle.std.specs.Prelude.{slice_get, bytes_eq}
-use Rattle.std.proofs.lemmas.Option.{slice_get-map}
-use Rattle.std.proofs.lemmas.Slice.Eq.{bytes_eq-Decides}
-use Rattle.two_nodes.specs.Nodes.{Half, Outcome, concluded, read, advance}
-use Rattle.two_nodes.specs.Nodes.Outcome.{Made}
-use Rattle.ddcmp_msg.specs.declared.nak_reason.NakReason.TheVariants.{HeaderCheck, DataCheck}
-use Rattle.ddcmp_msg.specs.Reading.{ReadingValue, reading}
+use Rattle.leaving_runs.proofs.Prelude.{◌≡◌, ℕ, ◌+◌, ◌≤◌, Bool, true, false, cond, nat_lt, ltb-false, Option, Some, None, Result, Ok, Err, List}
+use Rattle.leaving_runs.proofs.Prelude.{refl, sym, ap, ap₂, ◌∙◌, option_map, arith, slice_get, bytes_eq, slice_get-map, bytes_eq-Decides, Half}
+use Rattle.leaving_runs.proofs.Prelude.{Outcome, concluded, read, advance, Made, HeaderCheck, DataCheck, ReadingValue, reading, Fate, is_kept}
+use Rattle.leaving_runs.proofs.Prelude.{Received, StationRefusal, StepRefusal, HintOrder, LinkRefusal, counts_damage, Station, Truth, ArrivalValue}
+use Rattle.leaving_runs.proofs.Prelude.{Sound, HeaderBad, DataBad, arrival_refusal, after_arrival, coming, coming_by, damage, met, comes, receives}
+use Rattle.leaving_runs.proofs.Prelude.{step, unless_refused, Queues, of_partner, Numbers, Links, links_arrived, SentMessage, judged_by, Layers}
+use Rattle.leaving_runs.proofs.Prelude.{LayersNode, LayersUnit, with_links, keeps, meets_on, layers_machine, side_of, HasItsMessage, packet_in}
+use Rattle.leaving_runs.proofs.Prelude.{message_within, packet_of, LinkRecord, OfNoLink, Keeps, is_out, Judged, other_out, other_judged}
+use Rattle.leaving_runs.proofs.Prelude.{message_left, SideRight, RecordRight, unit_right, unseen, keeps_left, arrived_left, bytes_left}
+use Rattle.leaving_runs.proofs.Prelude.{bytes_left_by, station_left, Leaves, other_leaves, half_left, layers_left, unit_left, fate_left, met_if}
+use Rattle.leaving_runs.proofs.Prelude.{of_carried, of_unit}
 use Rattle.ddcmp_msg.specs.Reading as read_as
-use Rattle.capture_record.specs.declared.fate.Fate.{Fate}
 use Rattle.capture_record.specs.declared.fate.Fate.TheVariants as fates
-use Rattle.capture_record.specs.Fates.{is_kept}
-use Rattle.capture_record.specs.declared.record.Record.TheVariants.{Received}
-use Rattle.dna_station.specs.declared.refusal.StationRefusal.{StationRefusal}
-use Rattle.dna_station.specs.declared.refusal.StepRefusal.{StepRefusal}
-use Rattle.dna_station.specs.declared.refusal.StepRefusal.TheVariants.{HintOrder}
-use Rattle.dna_station.specs.declared.link_refusal.LinkRefusal.{LinkRefusal}
-use Rattle.dna_station.specs.Table.{counts_damage}
-use Rattle.dna_station.specs.Station.{Station}
-use Rattle.dna_station.specs.Truth.{Truth}
-use Rattle.dna_station.specs.Book.{ArrivalValue, Sound, HeaderBad, DataBad}
-use Rattle.dna_station.specs.StationBook.{arrival_refusal, after_arrival}
-use Rattle.dna_station.specs.Line.{coming, coming_by, damage}
-use Rattle.dna_station.specs.Machine.{met, comes, receives, step, unless_refused}
-use Rattle.dna_links.specs.declared.queue.Queues.{Queues}
-use Rattle.dna_links.specs.Arriving.{of_partner}
-use Rattle.dna_links.specs.TrueSegments.{Numbers}
-use Rattle.dna_links.specs.TrueLinks.{Links, links_arrived}
-use Rattle.dna_links.specs.Runs.{SentMessage}
-use Rattle.dna_node.specs.TagRules.{judged_by}
-use Rattle.dna_node.specs.Layers.{Layers, LayersNode, LayersUnit, with_links, keeps, meets_on, layers_machine}
-use Rattle.dna_node.specs.LayersPair.{side_of}
-use Rattle.dna_node.proofs.LayersBounded.{HasItsMessage}
-use Rattle.dna_node.proofs.LayersRead.{packet_in}
-use Rattle.leaving_out.specs.Messages.{message_within, packet_of}
-use Rattle.dna_leaving.specs.Records.{LinkRecord, OfNoLink, Keeps}
-use Rattle.dna_leaving.specs.LeftOut.{is_out}
-use Rattle.dna_leaving.specs.Left.{Judged, truth_left as link_truth_left}
-use Rattle.dna_leaving.specs.Worlds.{other_out, other_judged, message_left}
-use Rattle.dna_leaving.proofs.Sides.{SideRight, RecordRight, unit_right, unseen}
-use Rattle.dna_leaving.proofs.WorldSteps.{keeps_left, arrived_left}
-use Rattle.leaving_runs.specs.Stations.{bytes_left, bytes_left_by, station_left}
-use Rattle.leaving_runs.specs.Nodes.{Leaves, other_leaves, half_left, layers_left, unit_left}
-use Rattle.leaving_runs.specs.Records.{fate_left, met_if}
+use Rattle.dna_leaving.specs.Left.{truth_left as link_truth_left}
 use Rattle.leaving_runs.proofs.Stations.{arrival_left, refusal_left, counted_left}
 use Rattle.leaving_runs.proofs.Bytes.{message_of_packet, within_data, not_damaged, not_data_bad}
-use Rattle.leaving_runs.specs.Meets.{of_carried, of_unit}
 use Rattle.leaving_runs.proofs.Along.{AreMarked, both_right, Along, along_at, along_station, station_half, links_half, made_left}
 
 module _ (queues : Queues) (leaves : Leaves) (judged : Judged) (own other : Half LayersNode LayersUnit)

@@ -1,59 +1,23 @@
 -- A judged record that the links refuse is refused for the same reason after what is left.
-use Rattle.std.proofs.Common.{◌≡◌, ℕ, Bool, true, false, not, ◌&&◌, cond, Option, Some, None, Result, Ok, Err, List, [], refl}
-use Rattle.std.proofs.Common.{ap, ◌∙◌}
-use Rattle.two_nodes.specs.Nodes.{Half, Outcome, answered, advance}
-use Rattle.two_nodes.specs.Nodes.Outcome.{Refused}
-use Rattle.ddcmp_msg.specs.Message.{IsBytes, MessageValue}
-use Rattle.ddcmp_msg.specs.Reading.{ReadingValue, reading}
+use Rattle.leaving_runs.proofs.Prelude.{◌≡◌, ℕ, Bool, true, false, not, ◌&&◌, cond, Option, Some, None, Result, Ok, Err, List, [], refl, ap, ◌∙◌}
+use Rattle.leaving_runs.proofs.Prelude.{Half, Outcome, answered, advance, Refused, IsBytes, MessageValue, ReadingValue, reading, IsRecord, Event}
+use Rattle.leaving_runs.proofs.Prelude.{Record, Sent, User, PacketFault, NspFault, PacketValue, NspValue, packet_at, nsp_at, Start, Halt}
+use Rattle.leaving_runs.proofs.Prelude.{StationRefusal, StepRefusal, LinkRefusal, user_refusal, Station, after_event, body_of, sending_refusal}
+use Rattle.leaving_runs.proofs.Prelude.{after_sending, truth_of, gives_number, does, user_step, sent_step, step, unless_refused, Queues, Carried}
+use Rattle.leaving_runs.proofs.Prelude.{LinkEventValue, Open, Accept, Reject, In, Up, Close, Boot, Abort, TrueSegments, Numbers, Links, links_user}
+use Rattle.leaving_runs.proofs.Prelude.{links_sent, judged_by, content, content_of, message_in, is_returned, link_event, Layers, LayersNode}
+use Rattle.leaving_runs.proofs.Prelude.{LayersUnit, with_station, with_links, with_composed, composes, with_message, sends_first, sends_again}
+use Rattle.leaving_runs.proofs.Prelude.{sends_on, layers_machine, side_of, sent_by, OfUser, Sends, links_then, event_out, sent_out, source_of}
+use Rattle.leaving_runs.proofs.Prelude.{destination_of, is_judged_there, message_out, Judged, EventBinds, other_out, other_judged, SideRight}
+use Rattle.leaving_runs.proofs.Prelude.{refused_next, with_body, station_left, bytes_left, Leaves, other_leaves, half_left, layers_left}
+use Rattle.leaving_runs.proofs.Prelude.{record_left, PacketsFit, EventFits, of_content, of_event, of_first, of_sent, IsJudged}
 use Rattle.ddcmp_msg.specs.Reading as read_as
-use Rattle.capture_record.specs.Range.{IsRecord}
-use Rattle.capture_record.specs.declared.event.Event.{Event}
 use Rattle.capture_record.specs.declared.event.Event.TheVariants as events
-use Rattle.capture_record.specs.declared.record.Record.{Record}
-use Rattle.capture_record.specs.declared.record.Record.TheVariants.{Sent, User}
-use Rattle.dna_packet.specs.declared.fault.PacketFault.{PacketFault}
-use Rattle.dna_packet.specs.declared.fault.NspFault.{NspFault}
-use Rattle.dna_packet.specs.Packet.{PacketValue}
 use Rattle.dna_packet.specs.Packet as packets
-use Rattle.dna_packet.specs.Nsp.{NspValue}
-use Rattle.dna_packet.specs.ReadingPacket.{packet_at}
-use Rattle.dna_packet.specs.ReadingNsp.{nsp_at}
-use Rattle.dna_station.specs.declared.state.StationEvent.TheVariants.{Start, Halt}
-use Rattle.dna_station.specs.declared.refusal.StationRefusal.{StationRefusal}
-use Rattle.dna_station.specs.declared.refusal.StepRefusal.{StepRefusal}
 use Rattle.dna_station.specs.declared.refusal.StepRefusal.TheVariants.{Links as OfLinks}
-use Rattle.dna_station.specs.declared.link_refusal.LinkRefusal.{LinkRefusal}
-use Rattle.dna_station.specs.Table.{user_refusal}
-use Rattle.dna_station.specs.Station.{Station, after_event}
-use Rattle.dna_station.specs.Book.{body_of}
-use Rattle.dna_station.specs.StationBook.{sending_refusal, after_sending, truth_of, gives_number}
-use Rattle.dna_station.specs.Machine.{does, user_step, sends, sent_step, step, unless_refused}
-use Rattle.dna_links.specs.declared.queue.Queues.{Queues}
-use Rattle.dna_links.specs.Links.{Carried}
+use Rattle.dna_station.specs.Machine.{sends}
 use Rattle.dna_links.specs.Sending as links_sending
-use Rattle.dna_links.specs.User.{LinkEventValue, Open, Accept, Reject, In, Up, Close, Boot, Abort}
 use Rattle.dna_links.specs.User as user
-use Rattle.dna_links.specs.TrueSegments.{TrueSegments, Numbers}
-use Rattle.dna_links.specs.TrueLinks.{Links, links_user, links_sent}
-use Rattle.dna_node.specs.TagRules.{judged_by}
-use Rattle.dna_node.specs.Content.{content, content_of, message_in, is_returned, link_event}
-use Rattle.dna_node.specs.Layers.{Layers, LayersNode, LayersUnit, with_station, with_links, with_composed, composes, with_message}
-use Rattle.dna_node.specs.Layers.{sends_first}
-use Rattle.dna_node.specs.Layers.{sends_again, sends_on, layers_machine}
-use Rattle.dna_node.specs.LayersPair.{side_of}
-use Rattle.dna_node.proofs.OnTop.{sent_by}
-use Rattle.dna_leaving.specs.Records.{OfUser, Sends, links_then}
-use Rattle.dna_leaving.specs.LeftOut.{event_out, sent_out, source_of, destination_of, is_judged_there, message_out}
-use Rattle.dna_leaving.specs.Left.{Judged}
-use Rattle.dna_leaving.specs.Right.{EventBinds}
-use Rattle.dna_leaving.specs.Worlds.{other_out, other_judged}
-use Rattle.dna_leaving.proofs.Sides.{SideRight}
-use Rattle.dna_leaving.proofs.Runs.{refused_next}
-use Rattle.leaving_runs.specs.Stations.{with_body, station_left, bytes_left}
-use Rattle.leaving_runs.specs.Nodes.{Leaves, other_leaves, half_left, layers_left}
-use Rattle.leaving_runs.specs.Records.{record_left}
-use Rattle.leaving_runs.specs.Fitting.{PacketsFit, EventFits}
-use Rattle.leaving_runs.specs.Meets.{of_content, of_event, of_first, of_sent, IsJudged}
 use Rattle.leaving_runs.proofs.Bytes.{body_bytes}
 use Rattle.leaving_runs.proofs.Users.{goes_by}
 use Rattle.leaving_runs.proofs.Sendings.{first_by}

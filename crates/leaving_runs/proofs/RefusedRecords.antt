@@ -1,46 +1,17 @@
 -- A judged unit that comes, and that the links refuse, is refused for the same reason; and so any record.
-use Rattle.std.proofs.Common.{◌≡◌, ℕ, ◌+◌, Bool, true, false, cond, nat_lt, Option, Some, None, Result, Ok, Err, List, refl}
-use Rattle.std.proofs.Common.{ap, ◌∙◌}
-use Rattle.std.proofs.Common.{arith, ltb-false}
-use Rattle.std.specs.Prelude.{slice_get, bytes_eq}
-use Rattle.std.proofs.lemmas.Slice.Eq.{bytes_eq-Decides}
-use Rattle.two_nodes.specs.Nodes.{Half, Outcome, answered, concluded, read, advance}
-use Rattle.two_nodes.specs.Nodes.Outcome.{Refused}
-use Rattle.ddcmp_msg.specs.Reading.{ReadingValue, reading}
+use Rattle.leaving_runs.proofs.Prelude.{◌≡◌, ℕ, ◌+◌, Bool, true, false, cond, nat_lt, Option, Some, None, Result, Ok, Err, List, refl, ap, ◌∙◌}
+use Rattle.leaving_runs.proofs.Prelude.{arith, ltb-false, slice_get, bytes_eq, bytes_eq-Decides, Half, Outcome, answered, concluded, read, advance}
+use Rattle.leaving_runs.proofs.Prelude.{Refused, ReadingValue, reading, is_kept, Fate, Record, Sent, Received, Noise, User, StationRefusal}
+use Rattle.leaving_runs.proofs.Prelude.{StepRefusal, HintOrder, LinkRefusal, Station, Sound, arrival_refusal, after_arrival, coming, coming_by}
+use Rattle.leaving_runs.proofs.Prelude.{damage, does, met, comes, receives, noise_step, step, unless_refused, Queues, of_partner, Links}
+use Rattle.leaving_runs.proofs.Prelude.{links_arrived, SentMessage, judged_by, Layers, LayersNode, LayersUnit, with_links, keeps, meets_on}
+use Rattle.leaving_runs.proofs.Prelude.{layers_machine, side_of, HasItsMessage, Keeps, Judged, other_out, other_judged, message_left, SideRight}
+use Rattle.leaving_runs.proofs.Prelude.{refused_next, station_left, bytes_left, Leaves, other_leaves, half_left, layers_left, record_left}
+use Rattle.leaving_runs.proofs.Prelude.{PacketsFit, RecordFits, of_carried, of_unit, of_record, IsJudged}
 use Rattle.ddcmp_msg.specs.Reading as read_as
-use Rattle.capture_record.specs.Fates.{is_kept}
-use Rattle.capture_record.specs.declared.fate.Fate.{Fate}
 use Rattle.capture_record.specs.declared.fate.Fate.TheVariants as fates
-use Rattle.capture_record.specs.declared.record.Record.{Record}
-use Rattle.capture_record.specs.declared.record.Record.TheVariants.{Sent, Received, Noise, User}
-use Rattle.dna_station.specs.declared.refusal.StationRefusal.{StationRefusal}
-use Rattle.dna_station.specs.declared.refusal.StepRefusal.{StepRefusal}
-use Rattle.dna_station.specs.declared.refusal.StepRefusal.TheVariants.{HintOrder, Links as OfLinks}
-use Rattle.dna_station.specs.declared.link_refusal.LinkRefusal.{LinkRefusal}
-use Rattle.dna_station.specs.Station.{Station}
-use Rattle.dna_station.specs.Book.{Sound}
-use Rattle.dna_station.specs.StationBook.{arrival_refusal, after_arrival}
-use Rattle.dna_station.specs.Line.{coming, coming_by, damage}
-use Rattle.dna_station.specs.Machine.{does, met, comes, receives, noise_step, step, unless_refused}
-use Rattle.dna_links.specs.declared.queue.Queues.{Queues}
-use Rattle.dna_links.specs.Arriving.{of_partner}
-use Rattle.dna_links.specs.TrueLinks.{Links, links_arrived}
-use Rattle.dna_links.specs.Runs.{SentMessage}
-use Rattle.dna_node.specs.TagRules.{judged_by}
-use Rattle.dna_node.specs.Layers.{Layers, LayersNode, LayersUnit, with_links}
-use Rattle.dna_node.specs.Layers.{keeps, meets_on, layers_machine}
-use Rattle.dna_node.specs.LayersPair.{side_of}
-use Rattle.dna_node.proofs.LayersBounded.{HasItsMessage}
-use Rattle.dna_leaving.specs.Records.{Keeps}
-use Rattle.dna_leaving.specs.Left.{Judged, truth_left as link_truth_left}
-use Rattle.dna_leaving.specs.Worlds.{other_out, other_judged, message_left}
-use Rattle.dna_leaving.proofs.Sides.{SideRight}
-use Rattle.dna_leaving.proofs.Runs.{refused_next}
-use Rattle.leaving_runs.specs.Stations.{station_left, bytes_left}
-use Rattle.leaving_runs.specs.Nodes.{Leaves, other_leaves, half_left, layers_left}
-use Rattle.leaving_runs.specs.Records.{record_left}
-use Rattle.leaving_runs.specs.Fitting.{PacketsFit, RecordFits}
-use Rattle.leaving_runs.specs.Meets.{of_carried, of_unit, of_record, IsJudged}
+use Rattle.dna_station.specs.declared.refusal.StepRefusal.TheVariants.{Links as OfLinks}
+use Rattle.dna_leaving.specs.Left.{truth_left as link_truth_left}
 use Rattle.leaving_runs.proofs.Receipts.{sound_left, fate_is}
 use Rattle.leaving_runs.proofs.Steps.{AreKnown}
 use Rattle.leaving_runs.proofs.Refused.{event_refused, sent_refused}

@@ -1,39 +1,13 @@
 -- A run of both nodes: what is left of it is a run.
-use Rattle.std.proofs.Common.{◌≡◌, ℕ, ◌+◌, ◌<◌, not, Some, List, [], ◌∷◌, ◌++◌, map, length, refl, sym, ap, ◌∙◌, arith, subst, option_map}
-use Rattle.std.specs.Prelude.{slice_get}
-use Rattle.std.specs.List.{AllByRecursion}
-use Rattle.std.proofs.lemmas.List.{map-append}
-use Rattle.std.proofs.lemmas.Option.{slice_get-map}
-use Rattle.two_nodes.specs.Nodes.{Half, World, Run, Done, advance}
-use Rattle.two_nodes.specs.Nodes.Outcome.{Made}
-use Rattle.two_nodes.specs.Kept.{IsKept}
-use Rattle.two_nodes.proofs.Order.{one_more_of_a, one_more_of_b}
-use Rattle.two_nodes.proofs.Lasting.{lasts}
-use Rattle.ddcmp_msg.specs.Reading.{reading}
+use Rattle.leaving_runs.proofs.Prelude.{◌≡◌, ℕ, ◌+◌, ◌<◌, not, Some, List, [], ◌∷◌, ◌++◌, map, length, refl, sym, ap, ◌∙◌, arith, subst, option_map}
+use Rattle.leaving_runs.proofs.Prelude.{slice_get, AllByRecursion, map-append, slice_get-map, Half, World, Run, Done, advance, Made, IsKept}
+use Rattle.leaving_runs.proofs.Prelude.{one_more_of_a, one_more_of_b, lasts, reading, Record, Head, Queues, Numbers, Links, judged_by, LayersNode}
+use Rattle.leaving_runs.proofs.Prelude.{LayersUnit, unit_of_station, layers_pair_by, layers_start, side_of, follows, LayersRead, read_kept}
+use Rattle.leaving_runs.proofs.Prelude.{start_read, a_bounded, b_bounded, Marks, and_then, LinkRecord, LeftOut, is_out, Judged, all_judged}
+use Rattle.leaving_runs.proofs.Prelude.{other_out, other_judged, marked_before, marked_then, SideRight, grows, same_nodes, Leaves, other_leaves}
+use Rattle.leaving_runs.proofs.Prelude.{half_left, world_left, record_left, PacketsFit, RecordFits, of_record}
 use Rattle.ddcmp_msg.specs.Reading as read_as
-use Rattle.capture_record.specs.declared.record.Record.{Record}
-use Rattle.dna_station.specs.declared.head.Head.{Head}
-use Rattle.dna_links.specs.declared.queue.Queues.{Queues}
-use Rattle.dna_links.specs.TrueSegments.{Numbers}
-use Rattle.dna_links.specs.TrueLinks.{Links}
-use Rattle.dna_node.specs.TagRules.{judged_by}
-use Rattle.dna_node.specs.Layers.{LayersNode, LayersUnit, unit_of_station}
-use Rattle.dna_node.specs.LayersPair.{layers_pair_by, layers_start, side_of}
-use Rattle.dna_node.proofs.Follows.{follows}
-use Rattle.dna_node.proofs.LayersRead.{LayersRead, read_kept, start_read}
-use Rattle.dna_node.proofs.LayersBounds.{a_bounded, b_bounded}
-use Rattle.dna_leaving.specs.Marks.{Marks, and_then}
-use Rattle.dna_leaving.specs.Records.{LinkRecord}
-use Rattle.dna_leaving.specs.LeftOut.{LeftOut, is_out}
-use Rattle.dna_leaving.specs.Left.{Judged, all_judged}
-use Rattle.dna_leaving.specs.Worlds.{other_out, other_judged}
-use Rattle.dna_leaving.proofs.Lists.{marked_before, marked_then}
-use Rattle.dna_leaving.proofs.Sides.{SideRight, grows, same_nodes}
-use Rattle.leaving_runs.specs.Nodes.{Leaves, other_leaves, half_left, world_left}
-use Rattle.leaving_runs.specs.Records.{record_left}
-use Rattle.leaving_runs.specs.Fitting.{PacketsFit, RecordFits}
 use Rattle.leaving_runs.proofs.Bytes.{still_read}
-use Rattle.leaving_runs.specs.Meets.{of_record}
 use Rattle.leaving_runs.proofs.Along.{BothRight, Along, made_left}
 use Rattle.leaving_runs.proofs.Steps.{AreBytes, bytes_left_on, AreKnown, record_along}
 

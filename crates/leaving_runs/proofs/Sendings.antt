@@ -1,51 +1,22 @@
 -- What is left of a unit that is sent.
-use Rattle.std.proofs.Common.{◌≡◌, ℕ, Bool, true, false, cond, Option, Some, None, Result, Ok, Err, List, [], ◌∷◌, refl, sym, ap, ap₂, ◌∙◌}
-use Rattle.std.proofs.Common.{option_map}
-use Rattle.std.specs.Prelude.{slice_get}
-use Rattle.std.proofs.lemmas.List.{map-append}
-use Rattle.std.proofs.lemmas.Option.{slice_get-map}
-use Rattle.two_nodes.specs.Nodes.{Half, Outcome, answered, advance}
-use Rattle.two_nodes.specs.Nodes.Outcome.{Made}
-use Rattle.ddcmp_msg.specs.Message.{IsBytes, MessageValue, Data}
-use Rattle.ddcmp_msg.specs.Reading.{ReadingValue, reading}
+use Rattle.leaving_runs.proofs.Prelude.{◌≡◌, ℕ, Bool, true, false, cond, Option, Some, None, Result, Ok, Err, List, [], ◌∷◌, refl, sym, ap, ap₂}
+use Rattle.leaving_runs.proofs.Prelude.{◌∙◌, option_map, slice_get, map-append, slice_get-map, Half, Outcome, answered, advance, Made, IsBytes}
+use Rattle.leaving_runs.proofs.Prelude.{MessageValue, Data, ReadingValue, reading, Sent, StationRefusal, StepRefusal, LinkRefusal, change_of}
+use Rattle.leaving_runs.proofs.Prelude.{Station, Truth, body_of, sending_refusal, after_sending, gives_number, truth_of, sent_step, step}
+use Rattle.leaving_runs.proofs.Prelude.{unless_refused, Queues, Carried, TrueSegments, Numbers, Links, links_sent, SentMessage, judged_by, content}
+use Rattle.leaving_runs.proofs.Prelude.{Layers, LayersTruth, LayersNode, LayersUnit, first_sent, with_message, sends_first, sends_again, sends_on}
+use Rattle.leaving_runs.proofs.Prelude.{of_place, carried_again, layers_machine, side_of, sent_by, sent_with, LinkRecord, OfNoLink, Sends}
+use Rattle.leaving_runs.proofs.Prelude.{links_then, message_out, kept_out, source_of, destination_of, Judged, links_left, other_out, other_judged}
+use Rattle.leaving_runs.proofs.Prelude.{message_left, SideRight, packet_right, unseen, sends_none, sends_left, made_of_left, sent_right, with_body}
+use Rattle.leaving_runs.proofs.Prelude.{bytes_left, station_left, Leaves, other_leaves, half_left, layers_left, node_left, unit_left, PacketsFit}
+use Rattle.leaving_runs.proofs.Prelude.{of_content, of_first, of_sent}
 use Rattle.ddcmp_msg.specs.Reading as read_as
-use Rattle.capture_record.specs.declared.record.Record.TheVariants.{Sent}
-use Rattle.dna_station.specs.declared.refusal.StationRefusal.{StationRefusal}
-use Rattle.dna_station.specs.declared.refusal.StepRefusal.{StepRefusal}
-use Rattle.dna_station.specs.declared.link_refusal.LinkRefusal.{LinkRefusal}
-use Rattle.dna_station.specs.Table.{change_of}
-use Rattle.dna_station.specs.Station.{Station}
-use Rattle.dna_station.specs.Truth.{Truth}
-use Rattle.dna_station.specs.Book.{body_of}
-use Rattle.dna_station.specs.StationBook.{sending_refusal, after_sending, gives_number, truth_of}
-use Rattle.dna_station.specs.Machine.{sends, sent_step, step, unless_refused}
-use Rattle.dna_links.specs.declared.queue.Queues.{Queues}
-use Rattle.dna_links.specs.Links.{Carried}
+use Rattle.dna_station.specs.Machine.{sends}
 use Rattle.dna_links.specs.Sending as links_sending
-use Rattle.dna_links.specs.TrueSegments.{TrueSegments, Numbers}
-use Rattle.dna_links.specs.TrueLinks.{Links, links_sent}
-use Rattle.dna_links.specs.Runs.{SentMessage}
-use Rattle.dna_node.specs.TagRules.{judged_by}
-use Rattle.dna_node.specs.Content.{content}
-use Rattle.dna_node.specs.Layers.{Layers, LayersTruth, LayersNode, LayersUnit, first_sent, with_message, sends_first, sends_again, sends_on}
-use Rattle.dna_node.specs.Layers.{of_place}
-use Rattle.dna_node.specs.Layers.{carried_again, layers_machine}
-use Rattle.dna_node.specs.LayersPair.{side_of}
-use Rattle.dna_node.proofs.OnTop.{sent_by, sent_with}
-use Rattle.dna_leaving.specs.Records.{LinkRecord, OfNoLink, Sends, links_then}
-use Rattle.dna_leaving.specs.LeftOut.{message_out, kept_out, source_of, destination_of}
-use Rattle.dna_leaving.specs.Left.{Judged, links_left, truth_left as link_truth_left}
-use Rattle.dna_leaving.specs.Worlds.{other_out, other_judged, message_left}
-use Rattle.dna_leaving.proofs.Sides.{SideRight, packet_right, unseen}
-use Rattle.dna_leaving.proofs.StepsLeft.{sends_none}
-use Rattle.dna_leaving.proofs.SendsLeft.{sends_left, made_of_left, sent_right}
-use Rattle.leaving_runs.specs.Stations.{with_body, bytes_left, station_left}
-use Rattle.leaving_runs.specs.Nodes.{Leaves, other_leaves, half_left, layers_left, node_left, unit_left}
-use Rattle.leaving_runs.specs.Fitting.{PacketsFit}
+use Rattle.dna_leaving.specs.Left.{truth_left as link_truth_left}
 use Rattle.leaving_runs.proofs.Stations.{sending_left, after_left, truth_left, gives_left}
 use Rattle.leaving_runs.proofs.Bytes.{body_bytes, still_read}
 use Rattle.leaving_runs.proofs.Users.{sent_from}
-use Rattle.leaving_runs.specs.Meets.{of_content, of_first, of_sent}
 use Rattle.leaving_runs.proofs.Along.{AreMarked, both_right, Along, along_at, nothing_right, made_left}
 
 -- only a data message gives a number

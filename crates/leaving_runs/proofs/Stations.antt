@@ -1,28 +1,17 @@
 -- What a station makes of what is left is what is left of what it makes.
-use Rattle.std.proofs.Common.{◌≡◌, ℕ, ◌+◌, ◌-◌, Bool, true, false, not, ◌&&◌, ◌==◌, cond, nat_lt, nat_le, Option, Some, None, List, [], ◌∷◌, ◌++◌}
-use Rattle.std.proofs.Common.{map, length, fold, refl, sym, ap, ap₂, ◌∙◌, option_map, length-append}
-use Rattle.std.specs.Prelude.{slice_get}
-use Rattle.std.proofs.lemmas.List.{map-append, length-map}
-use Rattle.std.proofs.lemmas.Option.{slice_get-map}
-use Rattle.std.proofs.lemmas.Slice.Eq.{bytes_eq-Decides}
-use Rattle.ddcmp_msg.specs.Message.{MessageValue, Data, Ack, Nak, Rep, Strt, Stack}
-use Rattle.ddcmp_msg.specs.declared.nak_reason.NakReason.{NakReason}
-use Rattle.dna_station.specs.declared.state.State.{State}
-use Rattle.dna_station.specs.declared.state.State.TheVariants.{Halted, Istrt, Astrt, Running}
-use Rattle.dna_station.specs.declared.state.StationEvent.{StationEvent}
-use Rattle.dna_station.specs.declared.state.StationEvent.TheVariants.{Start, Halt}
-use Rattle.dna_station.specs.declared.refusal.StationRefusal.TheVariants.{WrongState, WrongNumber, CrossedPeriod}
-use Rattle.dna_station.specs.Table.{WINDOW, Check, RespIsLast, CauseIsOpen, SomeOutstanding, NumIsHighest, NumIsNext, RoomIfNew, AsFirstGiven}
-use Rattle.dna_station.specs.Table.{checks, refusal_of}
-use Rattle.dna_station.specs.Table.{Effect, GoTo, TakePartner, Respond, SetBack, TakePacket, AnswerRep, Row, row, state_after, OfPair, ignored}
-use Rattle.dna_station.specs.PeriodRule.{PeriodRule, meets}
-use Rattle.dna_station.specs.Station.{Station, PastPeriod, given, wire, new_station, past, packets_of, after_event}
-use Rattle.dna_station.specs.Truth.{Truth, tag_of, response_of}
-use Rattle.dna_station.specs.Book.{Sound, body_of, first_failed, failed, has_packet, keep_refusal}
-use Rattle.dna_station.specs.StationBook.{station_book, is_new, has_room, is_packet, as_first_given, passes, with_packet, acknowledged_by, is_next}
-use Rattle.dna_station.specs.StationBook.{with_data, asked, does, sending_refusal, after_sending, truth_of, gives_number, arrival_refusal}
-use Rattle.dna_station.specs.StationBook.{after_arrival}
-use Rattle.leaving_runs.specs.Stations.{Packets, with_body, past_left, station_left}
+use Rattle.leaving_runs.proofs.Prelude.{◌≡◌, ℕ, ◌+◌, ◌-◌, Bool, true, false, not, ◌&&◌, ◌==◌, cond, nat_lt, nat_le, Option, Some, None, List, []}
+use Rattle.leaving_runs.proofs.Prelude.{◌∷◌, ◌++◌, map, length, fold, refl, sym, ap, ap₂, ◌∙◌, option_map, length-append, slice_get, map-append}
+use Rattle.leaving_runs.proofs.Prelude.{length-map, slice_get-map, bytes_eq-Decides, MessageValue, Data, Ack, Nak, Rep, Strt, Stack, NakReason}
+use Rattle.leaving_runs.proofs.Prelude.{State, Halted, Istrt, Astrt, Running, StationEvent, Start, Halt, WrongState, WrongNumber, CrossedPeriod}
+use Rattle.leaving_runs.proofs.Prelude.{WINDOW, Check, RespIsLast, CauseIsOpen, SomeOutstanding, NumIsHighest, NumIsNext, RoomIfNew, AsFirstGiven}
+use Rattle.leaving_runs.proofs.Prelude.{checks, refusal_of, Effect, GoTo, TakePartner, Respond, SetBack, TakePacket, AnswerRep, Row, row}
+use Rattle.leaving_runs.proofs.Prelude.{state_after, OfPair, ignored, PeriodRule, Station, PastPeriod, given, wire, new_station, past, packets_of}
+use Rattle.leaving_runs.proofs.Prelude.{after_event, Truth, tag_of, response_of, Sound, body_of, first_failed, failed, has_packet, keep_refusal}
+use Rattle.leaving_runs.proofs.Prelude.{station_book, is_new, has_room, is_packet, as_first_given, passes, with_packet, acknowledged_by, is_next}
+use Rattle.leaving_runs.proofs.Prelude.{with_data, asked, sending_refusal, after_sending, truth_of, gives_number, arrival_refusal, after_arrival}
+use Rattle.leaving_runs.proofs.Prelude.{Packets, with_body, past_left, station_left}
+use Rattle.dna_station.specs.PeriodRule.{meets}
+use Rattle.dna_station.specs.StationBook.{does}
 
 -- where each check that is passed stays passed, none that fails comes
 pub first_passed : (p q : Check → Bool) → ((check : Check) → p check ≡ true → q check ≡ true) → (list : List Check) → first_failed p list ≡ None →

@@ -1,32 +1,11 @@
 -- What is left of any record that is made.
-use Rattle.std.proofs.Common.{◌≡◌, ℕ, true, ◌≤◌, ◌⊎◌, inl, inr, Some, None, List, [], ◌∷◌, ◌++◌, length, refl, subst}
-use Rattle.std.specs.Prelude.{slice_get}
-use Rattle.two_nodes.specs.Nodes.{Half, advance}
-use Rattle.two_nodes.specs.Nodes.Outcome.{Made}
-use Rattle.two_nodes.proofs.NumberedSteps.{at_pushed}
-use Rattle.ddcmp_msg.specs.Message.{IsBytes}
-use Rattle.ddcmp_msg.specs.Reading.{reading}
+use Rattle.leaving_runs.proofs.Prelude.{◌≡◌, ℕ, true, ◌≤◌, ◌⊎◌, inl, inr, Some, None, List, [], ◌∷◌, ◌++◌, length, refl, subst, slice_get, Half}
+use Rattle.leaving_runs.proofs.Prelude.{advance, Made, at_pushed, IsBytes, reading, IsRecord, Record, Sent, Received, Noise, User, Start, Halt}
+use Rattle.leaving_runs.proofs.Prelude.{Sound, arrival_refusal, step, Queues, judged_by, LayersNode, LayersUnit, layers_machine, side_of, OnTop}
+use Rattle.leaving_runs.proofs.Prelude.{ByStation, ByLinks, ByBoth, Composed, Carries, Again, First, Receipt, Counted, Unheard, HasItsMessage}
+use Rattle.leaving_runs.proofs.Prelude.{Judged, other_out, other_judged, SideRight, with_body, bytes_left, Leaves, PacketsFit, RecordFits}
+use Rattle.leaving_runs.proofs.Prelude.{of_record}
 use Rattle.ddcmp_msg.specs.Reading as read_as
-use Rattle.capture_record.specs.Range.{IsRecord}
-use Rattle.capture_record.specs.declared.record.Record.{Record}
-use Rattle.capture_record.specs.declared.record.Record.TheVariants.{Sent, Received, Noise, User}
-use Rattle.dna_station.specs.declared.state.StationEvent.TheVariants.{Start, Halt}
-use Rattle.dna_station.specs.Book.{Sound}
-use Rattle.dna_station.specs.StationBook.{arrival_refusal}
-use Rattle.dna_station.specs.Machine.{step}
-use Rattle.dna_links.specs.declared.queue.Queues.{Queues}
-use Rattle.dna_node.specs.TagRules.{judged_by}
-use Rattle.dna_node.specs.Layers.{LayersNode, LayersUnit, layers_machine}
-use Rattle.dna_node.specs.LayersPair.{side_of}
-use Rattle.dna_node.proofs.OnTop.{OnTop, ByStation, ByLinks, ByBoth, Composed, Carries, Again, First, Receipt, Counted, Unheard}
-use Rattle.dna_node.proofs.LayersBounded.{HasItsMessage}
-use Rattle.dna_leaving.specs.Left.{Judged}
-use Rattle.dna_leaving.specs.Worlds.{other_out, other_judged}
-use Rattle.dna_leaving.proofs.Sides.{SideRight}
-use Rattle.leaving_runs.specs.Stations.{with_body, bytes_left}
-use Rattle.leaving_runs.specs.Nodes.{Leaves}
-use Rattle.leaving_runs.specs.Fitting.{PacketsFit, RecordFits}
-use Rattle.leaving_runs.specs.Meets.{of_record}
 use Rattle.leaving_runs.proofs.Along.{Along}
 use Rattle.leaving_runs.proofs.Users.{event_along}
 use Rattle.leaving_runs.proofs.Sendings.{sent_along}

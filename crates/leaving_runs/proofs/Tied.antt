@@ -1,31 +1,15 @@
 -- What the program makes of records is what is left of them.
-use Rattle.std.proofs.Common.{◌≡◌, ℕ, Bool, cond, Option, Some, None, List, [], ◌∷◌, map, refl, ap, ap₂, ◌∙◌}
-use Rattle.std.specs.List.{AllByRecursion}
-use Rattle.wire_base.specs.declared.side.Side.{Side}
-use Rattle.wire_base.specs.Side.{other_side}
+use Rattle.leaving_runs.proofs.Prelude.{◌≡◌, ℕ, Bool, cond, Option, Some, None, List, [], ◌∷◌, map, refl, ap, ap₂, ◌∙◌, AllByRecursion, Side}
+use Rattle.leaving_runs.proofs.Prelude.{other_side, ReadingValue, reading, Malformed, IsRecord, Event, Fate, NotKept, Kept, Dropped, Record, Sent}
+use Rattle.leaving_runs.proofs.Prelude.{Received, Noise, User, NspValue, Leaving, is_left, own, at_receiver, about_at_receiver, message_in_unit}
+use Rattle.leaving_runs.proofs.Prelude.{packet_left, unit_left_by, dropped_if_left, bytes_left, bytes_left_by, Leaves, met_if, fate_left}
+use Rattle.leaving_runs.proofs.Prelude.{event_left, record_left, RecordBinds, RecordFits, leaves_at, RecordAlike, AreAlike}
 use Rattle.ddcmp_msg.specs.Message as messages
-use Rattle.ddcmp_msg.specs.Reading.{ReadingValue, reading, Sound, HeaderBad, DataBad, Malformed}
-use Rattle.capture_record.specs.Range.{IsRecord}
-use Rattle.capture_record.specs.declared.event.Event.{Event}
+use Rattle.ddcmp_msg.specs.Reading.{Sound, HeaderBad, DataBad}
 use Rattle.capture_record.specs.declared.event.Event.TheVariants as events
-use Rattle.capture_record.specs.declared.fate.Fate.{Fate}
-use Rattle.capture_record.specs.declared.fate.Fate.TheVariants.{NotKept, Kept, Dropped}
-use Rattle.capture_record.specs.declared.record.Record.{Record}
-use Rattle.capture_record.specs.declared.record.Record.TheVariants.{Sent, Received, Noise, User}
-use Rattle.dna_packet.specs.Nsp.{NspValue}
-use Rattle.leaving_out.specs.declared.leaving.Leaving.{Leaving}
-use Rattle.leaving_out.specs.Addresses.{is_left, own, at_receiver}
-use Rattle.leaving_out.specs.About.{about_at_receiver}
-use Rattle.leaving_out.specs.Messages.{message_in_unit}
 use Rattle.leaving_out.specs.Messages as program
-use Rattle.leaving_out.specs.Packets.{packet_left, unit_left, unit_left_by}
-use Rattle.leaving_out.specs.Records.{dropped_if_left}
+use Rattle.leaving_out.specs.Packets.{unit_left}
 use Rattle.leaving_out.specs.Records as program_records
-use Rattle.leaving_runs.specs.Stations.{bytes_left, bytes_left_by}
-use Rattle.leaving_runs.specs.Nodes.{Leaves}
-use Rattle.leaving_runs.specs.Records.{met_if, fate_left, event_left, record_left}
-use Rattle.leaving_runs.specs.Fitting.{RecordBinds, RecordFits}
-use Rattle.leaving_runs.specs.Tied.{leaves_at, RecordAlike, AreAlike}
 use Rattle.leaving_runs.proofs.Packets.{kept_same}
 
 unit_same : (leaving : Leaving) (side : Side) (unit : List ℕ) → unit_left leaving side unit ≡ bytes_left (packet_left leaving side) unit

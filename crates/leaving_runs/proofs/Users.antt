@@ -1,48 +1,18 @@
 -- What is left of what the user does, and of a packet that is composed.
-use Rattle.std.proofs.Common.{◌≡◌, ℕ, Bool, true, false, ◌&&◌, ◌==◌, cond, Option, Some, None, Result, Ok, Err, List, [], refl, ap, ◌∙◌}
-use Rattle.std.proofs.lemmas.Bool.{and_parts}
-use Rattle.std.proofs.Common.{eqb-true}
-use Rattle.two_nodes.specs.Nodes.{Half, Outcome, answered, advance}
-use Rattle.two_nodes.specs.Nodes.Outcome.{Made}
-use Rattle.capture_record.specs.Range.{IsRecord}
-use Rattle.capture_record.specs.declared.event.Event.{Event}
+use Rattle.leaving_runs.proofs.Prelude.{◌≡◌, ℕ, Bool, true, false, ◌&&◌, ◌==◌, cond, Option, Some, None, Result, Ok, Err, List, [], refl, ap, ◌∙◌}
+use Rattle.leaving_runs.proofs.Prelude.{and_parts, eqb-true, Half, Outcome, answered, advance, Made, IsRecord, Event, Record, User, Start, Halt}
+use Rattle.leaving_runs.proofs.Prelude.{StationRefusal, StepRefusal, LinkRefusal, WrongNode, user_refusal, Station, after_event, does, user_step}
+use Rattle.leaving_runs.proofs.Prelude.{step, unless_refused, Queues, goes, Carried, check, LinkEventValue, Open, Accept, Reject, In, Up, Close}
+use Rattle.leaving_runs.proofs.Prelude.{Boot, Abort, TrueSegments, Numbers, Links, links_user, links_sent, judged_by, content, link_event, Layers}
+use Rattle.leaving_runs.proofs.Prelude.{LayersNode, LayersUnit, with_station, with_links, with_composed, composes, layers_machine, side_of}
+use Rattle.leaving_runs.proofs.Prelude.{LinkRecord, OfUser, Sends, OfNoLink, links_then, event_out, message_out, kept_out, source_of}
+use Rattle.leaving_runs.proofs.Prelude.{destination_of, Judged, EventBinds, other_out, other_judged, SideRight, RecordRight, event_right}
+use Rattle.leaving_runs.proofs.Prelude.{packet_right, left_is, unseen, user_step_left, composes_left, made_of_left, sent_right, station_left}
+use Rattle.leaving_runs.proofs.Prelude.{Leaves, other_leaves, half_left, layers_left, record_left, PacketsFit, EventFits, of_event, of_content}
 use Rattle.capture_record.specs.declared.event.Event.TheVariants as events
-use Rattle.capture_record.specs.declared.record.Record.{Record}
-use Rattle.capture_record.specs.declared.record.Record.TheVariants.{User}
-use Rattle.dna_station.specs.declared.state.StationEvent.TheVariants.{Start, Halt}
-use Rattle.dna_station.specs.declared.refusal.StationRefusal.{StationRefusal}
-use Rattle.dna_station.specs.declared.refusal.StepRefusal.{StepRefusal}
-use Rattle.dna_station.specs.declared.link_refusal.LinkRefusal.{LinkRefusal}
-use Rattle.dna_station.specs.declared.link_refusal.LinkRefusal.TheVariants.{WrongNode}
-use Rattle.dna_station.specs.Table.{user_refusal}
-use Rattle.dna_station.specs.Station.{Station, after_event}
-use Rattle.dna_station.specs.Machine.{does, user_step, step, unless_refused}
-use Rattle.dna_links.specs.declared.queue.Queues.{Queues}
-use Rattle.dna_links.specs.PacketAddresses.{goes}
-use Rattle.dna_links.specs.Links.{Carried, check}
-use Rattle.dna_links.specs.User.{LinkEventValue, Open, Accept, Reject, In, Up, Close, Boot, Abort}
 use Rattle.dna_links.specs.User as user
 use Rattle.dna_links.specs.Sending.{Sent}
-use Rattle.dna_links.specs.TrueSegments.{TrueSegments, Numbers}
-use Rattle.dna_links.specs.TrueLinks.{Links, links_user, links_sent}
-use Rattle.dna_node.specs.TagRules.{judged_by}
-use Rattle.dna_node.specs.Content.{content, link_event}
-use Rattle.dna_node.specs.Layers.{Layers, LayersNode, LayersUnit, with_station, with_links, with_composed, composes, layers_machine}
-use Rattle.dna_node.specs.LayersPair.{side_of}
-use Rattle.dna_leaving.specs.Records.{LinkRecord, OfUser, Sends, OfNoLink, links_then}
-use Rattle.dna_leaving.specs.LeftOut.{event_out, message_out, kept_out, source_of, destination_of}
-use Rattle.dna_leaving.specs.Left.{Judged}
-use Rattle.dna_leaving.specs.Right.{EventBinds}
-use Rattle.dna_leaving.specs.Worlds.{other_out, other_judged}
-use Rattle.dna_leaving.proofs.Sides.{SideRight, RecordRight, event_right, packet_right, left_is, unseen}
-use Rattle.dna_leaving.proofs.StepsLeft.{user_step_left}
-use Rattle.dna_leaving.proofs.SendsLeft.{composes_left, made_of_left, sent_right}
-use Rattle.leaving_runs.specs.Stations.{station_left}
-use Rattle.leaving_runs.specs.Nodes.{Leaves, other_leaves, half_left, layers_left}
-use Rattle.leaving_runs.specs.Records.{record_left}
-use Rattle.leaving_runs.specs.Fitting.{PacketsFit, EventFits}
 use Rattle.leaving_runs.proofs.Stations.{event_left as station_event_left}
-use Rattle.leaving_runs.specs.Meets.{of_event, of_content}
 use Rattle.leaving_runs.proofs.Along.{AreMarked, both_right, Along, along_at, along_station, links_half}
 use Rattle.leaving_runs.proofs.Along.{made_left}
 

@@ -1,19 +1,7 @@
 -- What is left of a pair of captures that is a run is one.
-use Rattle.std.proofs.Common.{List, map, refl, sym, subst}
-use Rattle.std.specs.List.{AllByRecursion}
-use Rattle.wire_base.specs.declared.side.Side.TheVariants.{A, B}
-use Rattle.capture_record.specs.Range.{IsRecord}
-use Rattle.capture_record.specs.declared.record.Record.{Record}
-use Rattle.dna_station.specs.declared.head.Head.{Head}
-use Rattle.dna_links.specs.declared.queue.Queues.{Queues}
-use Rattle.dna_node.specs.Kind.{layers_kind, IsRunOf}
-use Rattle.leaving_out.specs.declared.leaving.Leaving.{Leaving}
-use Rattle.leaving_out.specs.Records.{records_left}
-use Rattle.dna_leaving.specs.Worlds.{other_out}
-use Rattle.leaving_runs.specs.Nodes.{Leaves, other_leaves, world_left}
-use Rattle.leaving_runs.specs.Records.{record_left}
-use Rattle.leaving_runs.specs.Fitting.{PacketsFit, RecordFits}
-use Rattle.leaving_runs.specs.Tied.{leaves_at, KnowsHead, AreAlike}
+use Rattle.leaving_runs.proofs.Prelude.{List, map, refl, sym, subst, AllByRecursion, A, B, IsRecord, Record, Head, Queues, layers_kind, IsRunOf}
+use Rattle.leaving_runs.proofs.Prelude.{Leaving, records_left, other_out, Leaves, other_leaves, world_left, record_left, PacketsFit, RecordFits}
+use Rattle.leaving_runs.proofs.Prelude.{leaves_at, KnowsHead, AreAlike}
 use Rattle.leaving_runs.proofs.Packets.{packets_fit}
 use Rattle.leaving_runs.proofs.Tied.{records_same, all_fit}
 use Rattle.leaving_runs.proofs.Runs.{run_goes}

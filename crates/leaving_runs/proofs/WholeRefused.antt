@@ -1,26 +1,10 @@
 -- A judged record that the links refuse next to a run is refused for the same reason next to what is left of the run.
-use Rattle.std.proofs.Common.{◌≡◌, ℕ, List, [], ◌∷◌, map, refl, sym, ap, ◌∙◌, subst}
-use Rattle.std.specs.List.{AllByRecursion}
-use Rattle.wire_base.specs.declared.side.Side.TheVariants.{A, B}
-use Rattle.two_nodes.specs.Nodes.{World, Run, advance}
-use Rattle.two_nodes.specs.Nodes.Outcome.{Refused}
-use Rattle.capture_record.specs.Range.{IsRecord}
-use Rattle.capture_record.specs.declared.record.Record.{Record}
-use Rattle.dna_station.specs.declared.head.Head.{Head}
+use Rattle.leaving_runs.proofs.Prelude.{◌≡◌, ℕ, List, [], ◌∷◌, map, refl, sym, ap, ◌∙◌, subst, AllByRecursion, A, B, World, Run, advance, Refused}
+use Rattle.leaving_runs.proofs.Prelude.{IsRecord, Record, Head, LinkRefusal, Queues, Links, LayersNode, LayersUnit, layers_pair_by, layers_start}
+use Rattle.leaving_runs.proofs.Prelude.{Leaving, other_out, other_judged, Leaves, other_leaves, world_left, record_left, PacketsFit, RecordFits}
+use Rattle.leaving_runs.proofs.Prelude.{of_record, IsJudged, leaves_at, KnowsHead, AreAlike}
 use Rattle.dna_station.specs.declared.refusal.StepRefusal.TheVariants.{Links as OfLinks}
-use Rattle.dna_station.specs.declared.link_refusal.LinkRefusal.{LinkRefusal}
-use Rattle.dna_links.specs.declared.queue.Queues.{Queues}
-use Rattle.dna_links.specs.TrueLinks.{Links}
-use Rattle.dna_node.specs.Layers.{LayersNode, LayersUnit}
-use Rattle.dna_node.specs.LayersPair.{layers_pair_by, layers_start}
-use Rattle.leaving_out.specs.declared.leaving.Leaving.{Leaving}
 use Rattle.leaving_out.specs.Records as program
-use Rattle.dna_leaving.specs.Worlds.{other_out, other_judged}
-use Rattle.leaving_runs.specs.Nodes.{Leaves, other_leaves, world_left}
-use Rattle.leaving_runs.specs.Records.{record_left}
-use Rattle.leaving_runs.specs.Fitting.{PacketsFit, RecordFits}
-use Rattle.leaving_runs.specs.Meets.{of_record, IsJudged}
-use Rattle.leaving_runs.specs.Tied.{leaves_at, KnowsHead, AreAlike}
 use Rattle.leaving_runs.proofs.Packets.{packets_fit}
 use Rattle.leaving_runs.proofs.Tied.{one_same, records_same, all_fit}
 use Rattle.leaving_runs.proofs.Runs.{IsAt, RunLeft, Goes, run_goes, run_reads, known_a, known_b}

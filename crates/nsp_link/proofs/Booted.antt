@@ -216,7 +216,8 @@ given_by (Some phase) l over came kept calling =
     }) (sym came)
 
 -- with queues a call that has ended and was not opened here, which there is none of, would be settled: nothing of it would wait any more
-pub given_up : (queues : Queues) (l : LinkOf WireSegments) → is_in Ended l.port.phase ≡ true → l.port.opened ≡ false → is_calling (in_use queues l).phase ≡ true →
+pub given_up : (queues : Queues) (l : LinkOf WireSegments) → is_in Ended l.port.phase ≡ true → l.port.opened ≡ false →
+    is_calling (in_use queues l).phase ≡ true →
     settled wire_segments l.queue.waits l ≡ drops wire_segments queues l
 given_up Without l over came calling = not_both l.port.phase over calling
 given_up With l over came calling =

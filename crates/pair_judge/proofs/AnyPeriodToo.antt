@@ -95,7 +95,8 @@ module _ (queues : Queues) where
   layers_do_as_much = record {
     user = λ s t same event. rw (← same) (done_so (asked.user s event));
     sends = λ s t same m. rw (← same) (sent_so (asked.sends s m));
-    arrives = λ s t same arrival fate. rw (← same) (meets_so s arrival fate ((wire_machine of_period).arrives s.station (to_wire_station arrival) fate)
+    arrives = λ s t same arrival fate. rw (← same)
+        (meets_so s arrival fate ((wire_machine of_period).arrives s.station (to_wire_station arrival) fate)
         ((wire_machine of_any_period).arrives s.station (to_wire_station arrival) fate) (arrives_so s.station (to_wire_station arrival) fate));
   }
 

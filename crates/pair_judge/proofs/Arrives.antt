@@ -43,7 +43,8 @@ module _ (rules : Rules) (s : WireLayers) (link : Option LinkTag) (fate : Fate) 
   pub arrives_kept : (arrival : ArrivalValue Tag) (packet : List ℕ) (after : WireStation LinkTag) (tag : LinkTag)
       (r : Result WireLayers StepRefusal) → is_met fate ≡ true → wire_arrival_refusal rules.periods s.station arrival (is_kept fate) ≡ None →
       wire_taken s.station arrival (is_kept fate) ≡ Some packet
-      → after ≡ wire_after_arrival s.station arrival (is_kept fate) → tag ≡ tag_or_none link → wire_keeps_packet rules (record s { station = after }) tag
+      → after ≡ wire_after_arrival s.station arrival (is_kept fate) → tag ≡ tag_or_none link →
+      wire_keeps_packet rules (record s { station = after }) tag
       (content packet) ≡ r → (wire_layers_machine rules).arrives s (with_link link arrival) fate ≡ r
   arrives_kept (Sound m of_station) packet after tag r met free taken after_is tag_is keeps =
       let both = taken_kept (takes_by wire_book s.station m of_station) (is_kept fate) (body_of m) packet taken in
@@ -53,8 +54,10 @@ module _ (rules : Rules) (s : WireLayers) (link : Option LinkTag) (fate : Fate) 
   arrives_kept DataBad packet after tag r met free taken after_is tag_is keeps = absurd (cc)
 
   -- what the links do not meet leaves them
-  pub arrives_unmet : (arrival : ArrivalValue Tag) → is_met fate ≡ false → wire_arrival_refusal rules.periods s.station arrival (is_kept fate) ≡ None →
-      (wire_layers_machine rules).arrives s (with_link link arrival) fate ≡ Ok (record s { station = wire_after_arrival s.station arrival (is_kept fate) })
+  pub arrives_unmet : (arrival : ArrivalValue Tag) → is_met fate ≡ false →
+      wire_arrival_refusal rules.periods s.station arrival (is_kept fate) ≡ None →
+      (wire_layers_machine rules).arrives s (with_link link arrival) fate
+      ≡ Ok (record s { station = wire_after_arrival s.station arrival (is_kept fate) })
   arrives_unmet arrival unmet free =
       let next = record s { station = wire_after_arrival s.station arrival (is_kept fate) } in
       on_station arrival free ∙ ap (λ (k : Bool). cond k (wire_keeps rules next (with_link link arrival)) (Ok next)) unmet
@@ -69,7 +72,8 @@ kept_untaken false false body free nothing = absurd (cc)
 -- nothing was taken: the links stay
 pub arrives_untaken : (rules : Rules) (s : WireLayers) (link : Option LinkTag) (fate : Fate) (arrival : ArrivalValue Tag) →
     wire_arrival_refusal rules.periods s.station arrival (is_kept fate) ≡ None → wire_taken s.station arrival (is_kept fate) ≡ None →
-    (wire_layers_machine rules).arrives s (with_link link arrival) fate ≡ Ok (record s { station = wire_after_arrival s.station arrival (is_kept fate) })
+    (wire_layers_machine rules).arrives s (with_link link arrival) fate
+    ≡ Ok (record s { station = wire_after_arrival s.station arrival (is_kept fate) })
 arrives_untaken rules s link NotKept arrival free nothing = arrives_unmet rules s link NotKept arrival refl free
 arrives_untaken rules s link Dropped arrival free nothing = arrives_unmet rules s link Dropped arrival refl free
 arrives_untaken rules s link Kept (Sound m tag) free nothing =

@@ -82,7 +82,8 @@ module _ (laws : GrowingLaws) (text : Option (List ℕ)) (old new : Course) (bef
       let read = read_unread text old before made unread h in
       let few = gives.1 in
       let count = read.1 in
-      let so = laws.one_more text before after old.capture.form old.capture.own old.capture.peer made r read.0 (omega arith) gives.0 gives.4 gives.6 in
+      let so = laws.one_more text before after old.capture.form old.capture.own old.capture.peer made r read.0 (omega arith) gives.0 gives.4
+      gives.6 in
       from_unread text new after (made ++ r ∷ []) is (rw (own, peer, gives.5) so)
       (gives.2 ∙ ap (λ n. n + 1) read.1 ∙ sym (length-append made (r ∷ []))) head_on
 

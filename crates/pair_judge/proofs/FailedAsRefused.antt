@@ -41,7 +41,8 @@ use Rattle.dna_node.specs.declared.finding.Cause.TheVariants.{Step}
 use Rattle.dna_node.specs.Content.{content, content_of, is_returned, message_in}
 use Rattle.dna_node.specs.TagRules.{judged_by}
 use Rattle.dna_node.specs.WireLayers.{LayersTag, WireLayers, tag_or_none, to_wire_station, wire_keeps, wire_keeps_packet, wire_layers_machine}
-use Rattle.dna_node.specs.WireLayers.{wire_composes, wire_meets_on, with_wire_composed, wire_sends_again, wire_sends_first, wire_sends_on, with_tag, with_wire_links, with_wire_station}
+use Rattle.dna_node.specs.WireLayers.{wire_composes, wire_meets_on, with_wire_composed, wire_sends_again}
+use Rattle.dna_node.specs.WireLayers.{wire_sends_first, wire_sends_on, with_tag, with_wire_links, with_wire_station}
 use Rattle.nsp_link.specs.FailedArrival as arrives
 use Rattle.nsp_link.specs.FailedEvent as happens
 use Rattle.nsp_link.specs.FailedSending as sends
@@ -50,7 +51,8 @@ use Rattle.nsp_link.specs.Missing.{refusal_in}
 use Rattle.nsp_link.proofs.FailedArrival.{arrival_same as link_arrival_same}
 use Rattle.nsp_link.proofs.FailedEvent.{event_same}
 use Rattle.nsp_link.proofs.FailedSending.{sending_same}
-use Rattle.pair_judge.specs.FailedCheck.{lent_of, carried, cause_in, cause_of, failed_arrival, failed_at_links, failed_composed, failed_first, failed_kept}
+use Rattle.pair_judge.specs.FailedCheck.{lent_of, carried, cause_in, cause_of}
+use Rattle.pair_judge.specs.FailedCheck.{failed_arrival, failed_at_links, failed_composed, failed_first, failed_kept}
 use Rattle.pair_judge.specs.FailedCheck.{failed_lent, failed_message, failed_nsp, failed_packet, failed_start, failed_user}
 use Rattle.pair_judge.specs.inner.Steps.{with_link}
 use Rattle.pair_judge.specs.declared.failed_check.FailedCheck.{FailedCheck}
@@ -120,20 +122,25 @@ first_same queues s m after = by_new (gives_new s.station m) where
       caused (cond b (failed_packet (λ packet. option_map LinkSending (sends.failed_sending queues s.links packet)) (body_of m)) None) ≡
       cause_in (cond b (wire_sends_first (judged_by queues) s after (content (body_of m))) (Ok (wire_sends_again s m after)))
   by_new true =
-      packet_same (λ packet. option_map LinkSending (sends.failed_sending queues s.links packet)) (wire_sends_first (judged_by queues) s after) refl (λ refusal. refl)
+      packet_same (λ packet. option_map LinkSending (sends.failed_sending queues s.links packet)) (wire_sends_first (judged_by queues) s after) refl
+      (λ refusal. refl)
       (λ packet. linked_same LinkSending sends.refusal_of_sending (with_tag after) (λ failed. refl) (λ made. refl) (λ refusal. refl)
       (sends.failed_sending queues s.links packet) (wire_links_sent queues s.links packet) (sending_same queues s.links packet))
       (body_of m)
   by_new false = refl
 
-message_by : (queues : Queues) (s : WireLayers) (m : MessageValue) (after : WireStation LinkTag × Tag) (o : Option FailedSending) (p : Option StationRefusal) →
+message_by : (queues : Queues) (s : WireLayers) (m : MessageValue) (after : WireStation LinkTag × Tag) (o : Option FailedSending)
+    (p : Option StationRefusal) →
     option_map of_station.refusal_of_failed o ≡ p →
-    caused (or_next (option_map StationSending o) (failed_first queues s m)) ≡ cause_in (wire_sends_on (judged_by queues) s m (unless_refused p after))
-message_by queues s m after (Some failed) p same = ap (λ (q : Option StationRefusal). cause_in (wire_sends_on (judged_by queues) s m (unless_refused q after))) same
+    caused (or_next (option_map StationSending o) (failed_first queues s m))
+    ≡ cause_in (wire_sends_on (judged_by queues) s m (unless_refused p after))
+message_by queues s m after (Some failed) p same =
+    ap (λ (q : Option StationRefusal). cause_in (wire_sends_on (judged_by queues) s m (unless_refused q after))) same
 message_by queues s m after None p same =
     first_same queues s m after ∙ ap (λ (q : Option StationRefusal). cause_in (wire_sends_on (judged_by queues) s m (unless_refused q after))) same
 
-pub message_same : (queues : Queues) (s : WireLayers) (m : MessageValue) → caused (failed_message queues s m) ≡ cause_in ((wire_layers_machine (judged_by queues)).sends s m)
+pub message_same : (queues : Queues) (s : WireLayers) (m : MessageValue) →
+    caused (failed_message queues s m) ≡ cause_in ((wire_layers_machine (judged_by queues)).sends s m)
 message_same queues s m =
     message_by queues s m (wire_after_sending s.station m, wire_book.known s.station (wire_after_sending s.station m) m)
     (of_station.failed_sending s.station m) (wire_sending_refusal s.station m) (refuses_same s.station m)
@@ -147,7 +154,8 @@ kept_same queues s after (Sound m known) =
     (wire_keeps_packet (judged_by queues) (record s { station = after }) (tag_or_none known.link)) refl (λ refusal. refl)
     (λ packet. linked_same LinkArrival arrives.refusal_of_arrival (with_wire_links (record s { station = after })) (λ failed. refl) (λ made. refl)
     (λ refusal. refl) (arrives.failed_arrival s.links packet (tag_or_none known.link))
-    (wire_links_arrived queues (judged_by queues).partners s.links packet (tag_or_none known.link)) (link_arrival_same queues s.links packet (tag_or_none known.link)))
+    (wire_links_arrived queues (judged_by queues).partners s.links packet (tag_or_none known.link))
+    (link_arrival_same queues s.links packet (tag_or_none known.link)))
     (body_of m)
 kept_same queues s after HeaderBad = refl
 kept_same queues s after DataBad = refl
@@ -157,7 +165,8 @@ met_same : (queues : Queues) (s : WireLayers) (arrival : ArrivalValue LayersTag)
 met_same queues s arrival Kept after = kept_same queues s after arrival
 met_same queues s arrival fate after = refl
 
-arrival_by : (queues : Queues) (s : WireLayers) (arrival : ArrivalValue LayersTag) (fate : Fate) (after : WireStation LinkTag) (o : Option FailedArrival)
+arrival_by : (queues : Queues) (s : WireLayers) (arrival : ArrivalValue LayersTag) (fate : Fate) (after : WireStation LinkTag)
+    (o : Option FailedArrival)
     (p : Option StationRefusal) → option_map of_station.refusal_of_arrival o ≡ p →
     caused (or_next (option_map StationArrival o) (cond (is_met fate) (failed_kept s arrival) None)) ≡
     cause_in (wire_meets_on (judged_by queues) s arrival fate (unless_refused p after))
@@ -202,12 +211,14 @@ boot_same queues s =
 composed_same : (queues : Queues) (s : WireLayers) (packet : List ℕ) →
     caused (failed_composed queues s packet) ≡ cause_in (wire_composes (judged_by queues) s (content packet))
 composed_same queues s packet =
-    packet_same (λ packet. option_map LinkSending (sends.failed_sending queues s.links packet)) (wire_composes (judged_by queues) s) refl (λ refusal. refl)
+    packet_same (λ packet. option_map LinkSending (sends.failed_sending queues s.links packet)) (wire_composes (judged_by queues) s) refl
+    (λ refusal. refl)
     (λ packet. linked_same LinkSending sends.refusal_of_sending (with_wire_composed s) (λ failed. refl) (λ made. refl) (λ refusal. refl)
     (sends.failed_sending queues s.links packet) (wire_links_sent queues s.links packet) (sending_same queues s.links packet))
     packet
 
-pub user_same : (queues : Queues) (s : WireLayers) (event : Event) → caused (failed_user queues s event) ≡ cause_in ((wire_layers_machine (judged_by queues)).user s event)
+pub user_same : (queues : Queues) (s : WireLayers) (event : Event) →
+    caused (failed_user queues s event) ≡ cause_in ((wire_layers_machine (judged_by queues)).user s event)
 user_same queues s events.Start = start_same s (wire_book.after_event s.station Start) s.station.variables.state
 user_same queues s events.Halt = halt_same s (wire_book.after_event s.station Halt) s.station.variables.state
 user_same queues s (events.Open link) = links_same queues s (Open link)

@@ -86,7 +86,8 @@ module _ (queues : Queues) (own other : JudgeHalf) where
 
   receives_by : (hint : ℕ) (fate : Fate) (bytes : List ℕ) (unit : WireLayersUnit) (back : Bool) →
       caused (cond back (Some (failed.HintOrder hint own.state.front)) (failed_receipt own.state.station hint fate bytes (Some unit))) ≡
-      cause_there (concluded {U = WireLayersUnit} own (cond back (Err HintOrder) (comes (layers_run_by queues) own.state (hint + 1) fate (coming unit bytes))))
+      cause_there (concluded {U = WireLayersUnit} own
+      (cond back (Err HintOrder) (comes (layers_run_by queues) own.state (hint + 1) fate (coming unit bytes))))
   receives_by hint fate bytes unit true = refl
   receives_by hint fate bytes unit false = comes_same hint fate (coming unit bytes)
 
@@ -116,7 +117,8 @@ module _ (queues : Queues) (own other : JudgeHalf) where
 
 -- ---- a record at an end
 
-module _ (queues : Queues) (own : End) (incoming : Line) (mine theirs : JudgeHalf) (stands : StandsFor own incoming mine) (shows : Shows incoming theirs.sent) where
+module _ (queues : Queues) (own : End) (incoming : Line) (mine theirs : JudgeHalf) (stands : StandsFor own incoming mine)
+    (shows : Shows incoming theirs.sent) where
   at_state : (r : Record) → caused (failed_record queues mine.state.station mine.state.front (held incoming) r) ≡
       cause_there (advance (judge_step (links_on_top_by queues)) mine theirs r)
   at_state (Sent bytes) = sent_same queues mine theirs bytes (reading bytes)
@@ -199,7 +201,8 @@ module _ (queues : Queues) (own other : ShownEnd) (units : List WireLayersUnit) 
   abbrev order : Option FailedCheck
   order = both_await (awaited own other) (awaited other own)
 
-  pub step_named : (r : Record) (refusal : StepRefusal) → own.ahead ≡ Some r → caused (failed_record queues own.layers own.front units r) ≡ Some (Step refusal)
+  pub step_named : (r : Record) (refusal : StepRefusal) → own.ahead ≡ Some r →
+      caused (failed_record queues own.layers own.front units r) ≡ Some (Step refusal)
       → ¬ IsFirstOf (reason_of (Step refusal)) (checks_by queues own other units) None
   step_named r refusal ahead same =
       named_at (reason_of (Step refusal)) first (unit ∷ order ∷ [])
@@ -218,4 +221,5 @@ module _ (queues : Queues) (own other : ShownEnd) (units : List WireLayersUnit) 
       (named_behind (reason_of NoOrder) unit (order ∷ [])
       (named_at (reason_of NoOrder) order [] (of_cause order NoOrder
       (ap (λ (found : Option Awaited). caused (both_await found (awaited other own))) (awaits own other hint is)
-      ∙ ap (λ (found : Option Awaited). caused (both_await (Some (record { hint = hint; sent = other.sent })) found)) (awaits other own far is_far)))))
+      ∙ ap (λ (found : Option Awaited). caused (both_await (Some (record { hint = hint; sent = other.sent })) found))
+      (awaits other own far is_far)))))

@@ -43,7 +43,8 @@ alone_by : (queues : Queues) (s : WireLayers) (front : ℕ) (entry : Entry) (byt
 alone_by queues s front (entries.Received fate hint) bytes other = absurd (cc)
 alone_by queues s front entry bytes other = refl
 
-pub alone_first : (queues : Queues) (reason : Reason) (s : WireLayers) (front : ℕ) (entry : Entry) (bytes : List ℕ) (check found : Option FailedCheck) →
+pub alone_first : (queues : Queues) (reason : Reason) (s : WireLayers) (front : ℕ) (entry : Entry) (bytes : List ℕ)
+    (check found : Option FailedCheck) →
     is_receipt entry ≡ false → check ≡ failed_record queues s front [] (record_with entry bytes) → Follows reason check None found →
     IsFirstOf reason (checks_alone queues s front (Some (record_with entry bytes))) found
 alone_first queues reason s front entry bytes check found other is follows =

@@ -45,7 +45,8 @@ module _ (rules : Rules) (s : WireLayers) (link : Option LinkTag) (fate : Fate) 
     (tag_is : tag ≡ tag_or_none link) where
   -- the links took it
   pub meets_kept : (met : WireLayers) → wire_keeps_packet rules s tag (content packet) ≡ Ok met → met.station ≡ s.station →
-      (wire_layers_machine rules).arrives s (with_link link arrival) fate ≡ Ok (record met { station = wire_after_arrival met.station arrival (is_kept fate) })
+      (wire_layers_machine rules).arrives s (with_link link arrival) fate
+      ≡ Ok (record met { station = wire_after_arrival met.station arrival (is_kept fate) })
   meets_kept met keeps same =
       let after = wire_after_arrival s.station arrival (is_kept fate) in
       arrives_kept rules s link fate arrival packet after tag (Ok (record met { station = after })) met_is free taken refl tag_is

@@ -170,7 +170,8 @@ module _ (kind : NodeKind) where
   -- ---- both sides
 
   module _ (head_a head_b : Head) (of_a of_b : List Record) where
-    pub of_b_wrong : (m : ℕ) (cause : Cause) → IsWrongOfB kind (kind_start kind head_b head_a) of_b of_a m cause → Wrong head_b head_a of_b of_a m cause
+    pub of_b_wrong : (m : ℕ) (cause : Cause) → IsWrongOfB kind (kind_start kind head_b head_a) of_b of_a m cause →
+        Wrong head_b head_a of_b of_a m cause
     of_b_wrong m (Step refusal) w = w
     of_b_wrong m NoSuchUnit w = w
     of_b_wrong m NoOrder w = absurd w

@@ -35,8 +35,10 @@ pub shown : (queues : Queues) (head_a head_b : Head) (w : JudgeWorld) (of_a of_b
 shown queues head_a head_b w of_a of_b s = record {
   world = s.world;
   run = s.run;
-  refused_a = λ r refusal is. refused_there (layers_seen_by queues) (advance (layers_pair_by queues).node_a s.world.a s.world.b r) refusal (sym (s.same_a r) ∙ is);
-  refused_b = λ r refusal is. refused_there (layers_seen_by queues) (advance (layers_pair_by queues).node_b s.world.b s.world.a r) refusal (sym (s.same_b r) ∙ is);
+  refused_a = λ r refusal is. refused_there (layers_seen_by queues) (advance (layers_pair_by queues).node_a s.world.a s.world.b r) refusal
+      (sym (s.same_a r) ∙ is);
+  refused_b = λ r refusal is. refused_there (layers_seen_by queues) (advance (layers_pair_by queues).node_b s.world.b s.world.a r) refusal
+      (sym (s.same_b r) ∙ is);
   waits_a = λ r is. waits_there (layers_seen_by queues) (advance (layers_pair_by queues).node_a s.world.a s.world.b r) (sym (s.same_a r) ∙ is);
   waits_b = λ r is. waits_there (layers_seen_by queues) (advance (layers_pair_by queues).node_b s.world.b s.world.a r) (sym (s.same_b r) ∙ is);
   links_a = ap (λ (x : JudgeWorld). length x.a.state.station.links.links) s.is_cut ∙ length-map s.world.a.state.station.links.links (cut_link queues);
@@ -62,7 +64,8 @@ pub shown_by : (queues : Queues) → SeesRight queues → ShowsRuns (links_on_to
 shown_by queues sees head_a head_b w of_a of_b run = shown queues head_a head_b w of_a of_b (sees head_a head_b w of_a of_b run)
 
 -- of that world the wire nodes' one is the cut
-pub shown_is_cut : (queues : Queues) (head_a head_b : Head) (w : JudgeWorld) (of_a of_b : List Record) (s : IsSeenLayersBy queues head_a head_b w of_a of_b) →
+pub shown_is_cut : (queues : Queues) (head_a head_b : Head) (w : JudgeWorld) (of_a of_b : List Record)
+    (s : IsSeenLayersBy queues head_a head_b w of_a of_b) →
     w ≡ cut_world (layers_seen_by queues) (shown queues head_a head_b w of_a of_b s).world
 unfolding shown
 shown_is_cut queues head_a head_b w of_a of_b s = s.is_cut

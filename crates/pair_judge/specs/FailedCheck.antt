@@ -1,7 +1,7 @@
 -- The first check that a record does not pass, over both layers and the line, with what is seen there and what is allowed; and the reason of each.
 -- The checks of a station are named in `Failed` of `ddcmp_station`, those of its links in `FailedSending`, `FailedArrival` and `FailedEvent` of
 -- `nsp_link`; in which order they come is that of `WireLayers` of `dna_node` and `Machine` of `dna_station`.
-use Rattle.std.specs.Prelude.{ℕ, ◌-◌, slice_get, Bool, false, if◌then◌else◌, nat_lt, Option, Some, None, option_map, List, Result, Ok, Err}
+use Rattle.std.specs.Prelude.{ℕ, ◌-◌, slice_get, if◌then◌else◌, nat_lt, Option, Some, None, option_map, List, Result, Ok, Err}
 use Rattle.capture_record.specs.declared.event.Event.{Event}
 use Rattle.capture_record.specs.declared.event.Event.TheVariants as user
 use Rattle.capture_record.specs.declared.fate.Fate.{Fate}

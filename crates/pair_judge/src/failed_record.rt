@@ -47,7 +47,8 @@ pub fn failed_own<const QUEUES: u8>(
     bytes: &[u8],
 ) -> Option<FailedCheck>
     requires { is_receipt entry ≡ false }
-    ensures { (front : ℕ) (units : List WireLayersUnit) → result ≡ spec.failed_record (queues_of QUEUES) layers.now front units (record_with entry bytes.now) }
+    ensures { (front : ℕ) (units : List WireLayersUnit) →
+        result ≡ spec.failed_record (queues_of QUEUES) layers.now front units (record_with entry bytes.now) }
 {
     match entry {
         Entry::Sent => failed_sent::<QUEUES>(layers, bytes),

@@ -17,7 +17,7 @@ pub enum Layers {
 }
 
 /// What the captures of a pair are judged as.
-#[derive(Clone, Copy, PartialEq, Eq)]
+#[derive(Clone, Copy)]
 pub struct JudgedAs {
     /// Which layers.
     pub layers: Layers,

@@ -66,6 +66,10 @@ pub fn ends_with(verdict: Verdict, stopped: Stopped) -> JudgedEnds
 }
 
 impl JudgedEnds {
+    /// Drops both ends. Where a function holds them and ends in several ways, the proof follows each way through the drop of all their parts; here it
+    /// does so once.
+    pub fn let_go(self) {}
+
     /// The verdict.
     pub fn verdict(&self) -> Verdict
         ensures { result ≡ self.now.verdict }

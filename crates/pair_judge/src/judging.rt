@@ -57,6 +57,11 @@ pub struct Watched<O: Observer> {
     pub observer: O,
 }
 
+impl<O: Observer> Watched<O> {
+    /// Drops both ends and the observer, as `JudgedEnds::let_go` does.
+    pub fn let_go(self) {}
+}
+
 /// Decides whether the texts that two readers give up to their ends are captures that together are a run of two nodes, over a line that loses,
 /// damages and adds noise but never repeats or reorders units. It is asked of which nodes: each is a DDCMP station with its NSP links on top, whose
 /// numbers have no bound; or one with queues; or the station alone; or one of these that asks no period.

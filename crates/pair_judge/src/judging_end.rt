@@ -32,6 +32,11 @@ pub struct WatchedEnd<O: Observer> {
     pub observer: O,
 }
 
+impl<O: Observer> WatchedEnd<O> {
+    /// Drops the end and the observer, as `JudgedEnds::let_go` does.
+    pub fn let_go(self) {}
+}
+
 /// Decides of the text that a reader gives up to its end whether it is a capture whose records a node of a pair can make, whatever the capture of the
 /// other end may be: what came is taken as what the other end sent, and of hints it is only asked that they rise. It is asked over which layers: what
 /// the other end may not have sent is asked when it comes, also of a node with queues.

@@ -4,7 +4,7 @@ use Rattle.std.specs.Prelude.{IfOk, IfErr}
 use Rattle.wire_base.specs.declared.side.Side.{Side}
 use Rattle.wire_base.specs.Side.{side_letter}
 use Rattle.capture.specs.declared.fault.Departure.{Departure}
-use Rattle.capture.specs.declared.fault.Departure.TheVariants.{Syntax, TooLong, TooMany}
+use Rattle.capture.specs.declared.fault.Departure.TheVariants.{Syntax, TooLong, TooMany, Part}
 use Rattle.capture.specs.Text.{spaced}
 use Rattle.capture.specs.ListReader.{IsLineOf}
 use Rattle.capture.specs.Sided.{side_at}
@@ -71,6 +71,7 @@ words_depart TooLong text e =
     long_from : (line : ScriptStep) → IsLongLineOf text line → WordsDepart TooLong text
     long_from line h = (line, h.1, (λ short. let long = h.2 in absurd (omega arith)), h.0)
 words_depart TooMany text e = subst (Shows (IsLineOf script_form text) (IsLongLineOf text)) e (line_shows text)
+words_depart Part text e = subst (Shows (IsLineOf script_form text) (IsLongLineOf text)) e (line_shows text)
 
 -- the same of a reading in two parts
 pub read_step : (room text : List ℕ) (read : Result (LineEntry × ℕ) Departure) → line_at text ≡ parted room read →

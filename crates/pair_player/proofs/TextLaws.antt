@@ -2,7 +2,7 @@
 use Rattle.std.proofs.Common.{◌≡◌, ℕ, List, length, Result, Ok, Err, refl, sym, ap, ◌∙◌, arith}
 use Rattle.std.proofs.lemmas.Bool.{le-leb, lt-leb}
 use Rattle.capture.specs.declared.fault.Departure.{Departure}
-use Rattle.capture.specs.declared.fault.Departure.TheVariants.{Syntax, TooLong, TooMany}
+use Rattle.capture.specs.declared.fault.Departure.TheVariants.{Syntax, TooLong, TooMany, Part}
 use Rattle.capture.specs.ListLines.{AreLinesOf}
 use Rattle.capture.proofs.ListedLines.{no_lf}
 use Rattle.dna_play.specs.Script.{ScriptStep}
@@ -23,6 +23,7 @@ same_line p q h k e =
 words_fit : (kind : Departure) (line : ScriptStep) → IsStep line → WordsDepart kind (line_text line) → ⊥
 words_fit Syntax line h d = d line h.spelling refl
 words_fit TooMany line h d = d
+words_fit Part line h d = d
 words_fit TooLong line h d =
     let long : line_at (line_text d.0) ≡ Err TooLong =
     line_again d.0.side d.0.step d.1 ∙ rw (lt-leb (length (step_bytes d.0.step)) (most_bytes d.0.step) (omega (arith, d.2))) refl in
@@ -34,6 +35,8 @@ words_once line Syntax Syntax p q = refl
 words_once line TooLong TooLong p q = refl
 words_once line TooMany b p q = absurd p
 words_once line a TooMany p q = absurd q
+words_once line Part b p q = absurd p
+words_once line a Part p q = absurd q
 words_once line Syntax TooLong p q = absurd (p q.0 q.1 q.3)
 words_once line TooLong Syntax p q = absurd (q p.0 p.1 p.3)
 

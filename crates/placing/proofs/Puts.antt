@@ -53,7 +53,8 @@ one_line r old new e = e ∙ ap (λ (text : List ℕ). old ++ text) (sym (append
 
 -- the next unit of the side is taken, and then its line is put
 pub puts_sent : (old mid new : Waiting) (bytes : List ℕ) → old.units.own ≡ bytes ∷ mid.units.own → mid.units.seen ≡ drop 1 old.units.seen →
-    mid.units.other ≡ old.units.other → mid.units.gone ≡ old.units.gone → mid.text ≡ old.text → new.units ≡ mid.units → new.text ≡ mid.text ++ record_line Number (Sent bytes) →
+    mid.units.other ≡ old.units.other → mid.units.gone ≡ old.units.gone → mid.text ≡ old.text → new.units ≡ mid.units →
+    new.text ≡ mid.text ++ record_line Number (Sent bytes) →
     Puts old new
 puts_sent old mid new bytes own seen other gone same units text =
     record {
@@ -75,7 +76,8 @@ puts_came old mid new hint fate bytes named time own seen other gone same units 
           (text ∙ ap (λ (t : List ℕ). t ++ record_line Number (Received hint fate bytes)) same);
     }
 
-pub puts_lost : (old new : Waiting) (bytes : List ℕ) → new.units.own ≡ old.units.own → new.units.seen ≡ old.units.seen → old.units.other ≡ bytes ∷ new.units.other →
+pub puts_lost : (old new : Waiting) (bytes : List ℕ) → new.units.own ≡ old.units.own → new.units.seen ≡ old.units.seen →
+    old.units.other ≡ bytes ∷ new.units.other →
     new.units.gone ≡ old.units.gone + 1 → new.text ≡ old.text → Puts old new
 puts_lost old new bytes own seen other gone text =
     record {

@@ -44,8 +44,8 @@ pub(crate) enum Sent {
 }
 
 /// The link that got an own address last, while something of it may still be sent: its far address, 0 while it calls; whether it was opened
-/// here; whether it is assumed that its user gives it up while it calls; whether what came ended it, after which what waits in the queues of its node is still sent; of the segments the
-/// last number that was given, and whether a message is handed in whose last segment is not sent yet.
+/// here; whether it is assumed that its user gives it up while it calls; whether what came ended it, after which what waits in the queues of its node
+/// is still sent; of the segments the last number that was given, and whether a message is handed in whose last segment is not sent yet.
 #[derive(Clone, Copy, PartialEq, Eq)]
 pub(crate) struct UserLink {
     pub(crate) far: u16,

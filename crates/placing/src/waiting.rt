@@ -49,7 +49,10 @@ impl Model for Waiting {
 
     ghost Value = { Waiting };
 
-    ghost view = { λ w. record { units = record { own = w.own.items; seen = w.seen.items; other = w.other.items; gone = w.gone }; text = w.text.items } };
+    ghost view = { λ w. record {
+      units = record { own = w.own.items; seen = w.seen.items; other = w.other.items; gone = w.gone };
+      text = w.text.items;
+    } };
 
     ghost invariant = { λ w. w.gone + length w.other.items ≤ MAX_HINT };
 }

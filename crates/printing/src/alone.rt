@@ -17,10 +17,10 @@ use wire_base::{Side, Tally};
 
 /// Judges the capture that a reader gives without that of the other end, over these layers, prints the answer, and answers the status.
 ///
-/// A verdict is printed to `out`: `passed` and the line of counts, which of a station alone ends with its periods, status 0, or `refused a RECORD line LINE: NUMBER NAME`, with
-/// ` by the other end` after it where that end broke the rule, status 1. A fault is printed to `err`: the text's faulty line and its kind,
-/// status 2; a failed read or want of memory, status 3. The whole text is put together before the first write; where there is no memory
-/// for it, the answer is `out of memory`. A failed write ends the printing, with status 3.
+/// A verdict is printed to `out`: `passed` and the line of counts, which of a station alone ends with its periods, status 0, or `refused a RECORD
+/// line LINE: NUMBER NAME`, with ` by the other end` after it where that end broke the rule, status 1. A fault is printed to `err`: the text's faulty
+/// line and its kind, status 2; a failed read or want of memory, status 3. The whole text is put together before the first write; where there is no
+/// memory for it, the answer is `out of memory`. A failed write ends the printing, with status 3.
 pub fn alone_to<A: Read, O: Write, E: Write>(
     alloc: Global,
     layers: Layers,

@@ -11,9 +11,10 @@ use crate::end_text::end_status;
 use crate::fault_told::FaultTold;
 use crate::how::Form;
 use crate::layers::{Layers, judge_end_over, judge_over};
-use crate::objects::{NO_MEMORY, end_object, fault_object, verdict_object, with_lf};
+use crate::objects::{NO_MEMORY, end_object, fault_object, verdict_object};
 use crate::path_text::put_path;
 use crate::text::{FAILED, verdict_status, verdict_text};
+use json_text::Members;
 use pair_judge::Verdict;
 use std::alloc::{AllocError, Global};
 use std::io::{Read, Write};
@@ -95,14 +96,14 @@ pub fn check_named_to<A: Read, B: Read, O: Write, E: Write>(
 
 /// Prints an object with its LF, and answers the status: the given one; or 3 where there was no memory for it, which is told, or a write failed.
 pub fn print_object<O: Write, E: Write>(
-    object: Result<Vec<u8>, AllocError>,
+    object: Members,
     status: u8,
     out: &mut Tally<O>,
     err: &mut Tally<E>,
 ) -> u8
     ensures { EndsWith status result }
 {
-    match with_end(object) {
+    match object.into_line() {
         Ok(line) => print(out, line.as_slice(), status),
         Err(_) => {
             let status = print_out_of_memory(err);
@@ -115,14 +116,10 @@ pub fn print_object<O: Write, E: Write>(
 pub fn print_told<O: Write>(alloc: Global, name: &str, told: FaultTold, out: &mut Tally<O>) -> u8
     ensures { EndsWith told.status result }
 {
-    match with_end(fault_object(alloc, name, told)) {
+    match fault_object(alloc, name, told).into_line() {
         Ok(line) => print(out, line.as_slice(), told.status),
         Err(_) => print(out, NO_MEMORY.as_bytes(), FAILED),
     }
-}
-
-fn with_end(object: Result<Vec<u8>, AllocError>) -> Result<Vec<u8>, AllocError> {
-    with_lf(object?)
 }
 
 /// Prints the name of the first file before a fault. `Err`: there is no memory for it, which was told, or the write failed; with status 3.

@@ -16,11 +16,11 @@ use wire_base::{Side, Tally, write_whole};
 
 /// Judges the captures that two readers give over these layers, prints the answer, and answers the status.
 ///
-/// A verdict is printed to `out`: `accepted` and a line a side, which of stations alone ends with its periods, status 0, or `refused SIDE RECORD line LINE: NUMBER NAME`,
-/// status 1. A fault is printed to `err`: a faulty text's line and kind, status 2; a failed read or want of memory,
-/// status 3. The whole text is put together before the first write, so that no allocation comes between two writes; where there
-/// is no memory for it, the answer is `out of memory`. That and a failed read are printed without memory, so that a failed
-/// read is always told. A failed write ends the printing, with status 3.
+/// A verdict is printed to `out`: `accepted` and a line a side, which of stations alone ends with its periods, status 0, or `refused SIDE RECORD line
+/// LINE: NUMBER NAME`, status 1. A fault is printed to `err`: a faulty text's line and kind, status 2; a failed read or want of memory, status 3. The
+/// whole text is put together before the first write, so that no allocation comes between two writes; where there is no memory for it, the answer is
+/// `out of memory`. That and a failed read are printed without memory, so that a failed read is always told. A failed write ends the printing, with
+/// status 3.
 pub fn check_to<A: Read, B: Read, O: Write, E: Write>(
     alloc: Global,
     layers: Layers,

@@ -1,283 +1,169 @@
-//! The answers of words that judge, as JSON objects, in the keys of `why --json`. An object is put together without its LF.
+//! The answers of words that judge, as JSON objects, in the keys of `why --json`.
 
 use crate::fault_told::{FaultKind, FaultTold};
 use crate::files::Named;
 use crate::layers::Layers;
+use json_text::Members;
 use pair_judge::{Accused, EndVerdict, Reason, SideSummary, Verdict};
-use std::alloc::{AllocError, Global};
+use std::alloc::Global;
+use std::fmt;
 use wire_base::Side;
 
 /// What is told where there is no memory for an object, with its LF.
 pub const NO_MEMORY: &str =
     "{\"what\": \"fault\", \"file\": null, \"side\": null, \"line\": null, \"fault\": \"out of memory\"}\n";
 
-/// The verdict on a pair, whose first file has this name. Fails for want of memory alone, as all of these do.
-pub fn verdict_object(
-    alloc: Global,
-    layers: Layers,
-    name: &str,
-    verdict: Verdict,
-) -> Result<Vec<u8>, AllocError> {
-    let what = match verdict {
-        Verdict::Accepted(_) => "accepted",
-        Verdict::Refused { .. } => "refused",
-    };
-    let mut object = begun(alloc, what, name)?;
-    put_verdict(alloc, &mut object, layers, verdict)?;
-    ended(object)
-}
-
-fn put_verdict(
-    alloc: Global,
-    object: &mut Vec<u8>,
-    layers: Layers,
-    verdict: Verdict,
-) -> Result<(), AllocError> {
+/// The verdict on a pair, whose first file has this name.
+pub fn verdict_object(alloc: Global, layers: Layers, name: &str, verdict: Verdict) -> Members {
     match verdict {
         Verdict::Accepted(summary) => {
-            put_counts(alloc, object, layers, Side::A, summary.a)?;
-            put_counts(alloc, object, layers, Side::B, summary.b)
+            let mut object = begun(alloc, "accepted", name);
+            put_counts(alloc, &mut object, layers, Side::A, summary.a);
+            put_counts(alloc, &mut object, layers, Side::B, summary.b);
+            object
         }
         Verdict::Refused {
             side,
             place,
             reason,
-        } => {
-            put_place(alloc, object, side, place)?;
-            put_reason(alloc, object, reason)
-        }
+        } => refused_object(alloc, name, side, place, reason),
     }
 }
 
 /// The verdict on one end, whose file has this name.
-pub fn end_object(
-    alloc: Global,
-    layers: Layers,
-    name: &str,
-    verdict: EndVerdict,
-) -> Result<Vec<u8>, AllocError> {
-    let what = match verdict {
-        EndVerdict::Passed(_) => "passed",
-        EndVerdict::Refused { .. } => "refused",
-    };
-    let mut object = begun(alloc, what, name)?;
-    put_end_verdict(alloc, &mut object, layers, verdict)?;
-    ended(object)
-}
-
-fn put_end_verdict(
-    alloc: Global,
-    object: &mut Vec<u8>,
-    layers: Layers,
-    verdict: EndVerdict,
-) -> Result<(), AllocError> {
+pub fn end_object(alloc: Global, layers: Layers, name: &str, verdict: EndVerdict) -> Members {
     match verdict {
-        EndVerdict::Passed(counts) => put_counts(alloc, object, layers, Side::A, counts),
+        EndVerdict::Passed(counts) => {
+            let mut object = begun(alloc, "passed", name);
+            put_counts(alloc, &mut object, layers, Side::A, counts);
+            object
+        }
         EndVerdict::Refused {
             place,
             accused,
             reason,
         } => {
-            put_place(alloc, object, Side::A, place)?;
-            put_reason(alloc, object, reason)?;
-            put(object, accused_key(accused))
+            let mut object = refused_object(alloc, name, Side::A, place, reason);
+            put_accused(&mut object, accused);
+            object
         }
     }
 }
 
-/// A fault, where the first file has this name.
-pub fn fault_object(alloc: Global, name: &str, told: FaultTold) -> Result<Vec<u8>, AllocError> {
-    let mut object = begun(alloc, "fault", name)?;
-    put_named(alloc, &mut object, told.named)?;
-    put_kind(alloc, &mut object, told.kind)?;
-    ended(object)
+fn refused_object(alloc: Global, name: &str, side: Side, place: u64, reason: Reason) -> Members {
+    let mut object = begun(alloc, "refused", name);
+    put_place(&mut object, side, place);
+    put_reason(&mut object, reason);
+    object
 }
 
-fn put_named(alloc: Global, object: &mut Vec<u8>, named: Option<Named>) -> Result<(), AllocError> {
-    let Some(named) = named else {
-        return put(object, ", \"side\": null");
-    };
-    let part = format!(in alloc; ", \"side\": \"{named}\"")?;
-    put(object, part.as_str())
+/// A fault, where the first file has this name.
+pub fn fault_object(alloc: Global, name: &str, told: FaultTold) -> Members {
+    let mut object = begun(alloc, "fault", name);
+    match told.named {
+        Some(named) => object.shown("side", &named),
+        None => object.null("side"),
+    }
+    put_kind(&mut object, told.kind);
+    object
 }
 
 /// The beginning of an object: what it is, and the name of the first file.
-pub fn begun(alloc: Global, what: &str, name: &str) -> Result<Vec<u8>, AllocError> {
-    let mut object = Vec::new(alloc);
-    put_begun(alloc, &mut object, what, name)?;
-    Ok(object)
+pub fn begun(alloc: Global, what: &str, name: &str) -> Members {
+    let mut object = Members::new(alloc);
+    object.text("what", what);
+    object.text("file", name);
+    object
 }
 
-fn put_begun(
-    alloc: Global,
-    object: &mut Vec<u8>,
-    what: &str,
-    name: &str,
-) -> Result<(), AllocError> {
-    put(object, "{\"what\": \"")?;
-    put(object, what)?;
-    put(object, "\", \"file\": ")?;
-    put_string(alloc, object, name)
-}
-
-/// The whole object.
-pub fn ended(mut object: Vec<u8>) -> Result<Vec<u8>, AllocError> {
-    object.push(b'}')?;
-    Ok(object)
-}
-
-/// The whole object with its LF.
-pub fn with_lf(mut object: Vec<u8>) -> Result<Vec<u8>, AllocError> {
-    object.push(b'\n')?;
-    Ok(object)
-}
-
-/// Appends words as they are.
-pub fn put(object: &mut Vec<u8>, words: &str) -> Result<(), AllocError> {
-    object.extend_from_slice(words.as_bytes())
-}
-
-/// Appends a text as a string of JSON.
-pub fn put_string(alloc: Global, object: &mut Vec<u8>, text: &str) -> Result<(), AllocError> {
-    object.push(b'"')?;
-    let bytes = text.as_bytes();
-    for byte in bytes {
-        put_byte(alloc, object, *byte)?;
-    }
-    object.push(b'"')?;
-    Ok(())
-}
-
-// A quote and a backslash have a backslash before them, and a control character is told by its number.
-fn put_byte(alloc: Global, object: &mut Vec<u8>, byte: u8) -> Result<(), AllocError> {
-    if byte == b'"' || byte == b'\\' {
-        object.push(b'\\')?;
-        object.push(byte)?;
-        return Ok(());
-    }
-    if byte < b' ' || byte == 127 {
-        let escaped = format!(in alloc; "\\u00{}{}", digit(byte / 16), digit(byte % 16))?;
-        return put(object, escaped.as_str());
-    }
-    object.push(byte)?;
-    Ok(())
-}
-
-fn digit(value: u8) -> char {
-    match value {
-        0 => '0',
-        1 => '1',
-        2 => '2',
-        3 => '3',
-        4 => '4',
-        5 => '5',
-        6 => '6',
-        7 => '7',
-        8 => '8',
-        9 => '9',
-        10 => 'a',
-        11 => 'b',
-        12 => 'c',
-        13 => 'd',
-        14 => 'e',
-        _ => 'f',
-    }
-}
-
-/// Appends the counts of a side.
+/// The counts of a side. Those of a station alone end with its periods.
 pub fn put_counts(
     alloc: Global,
-    object: &mut Vec<u8>,
+    object: &mut Members,
     layers: Layers,
     side: Side,
     counts: SideSummary,
-) -> Result<(), AllocError> {
-    let SideSummary {
-        records,
-        sent,
-        received,
-        damaged,
-        ..
-    } = counts;
-    let part = format!(in alloc;
-        ", \"{side}\": {{\"records\": {records}, \"sent\": {sent}, \"received\": {received}, \"damaged\": {damaged}"
-    )?;
-    put(object, part.as_str())?;
-    put_last_counts(alloc, object, layers, counts)
+) {
+    let mut of_side = Members::new(alloc);
+    put_station_counts(&mut of_side, counts);
+    match layers {
+        Layers::Both | Layers::Queued => {
+            of_side.number("links", counts.links);
+            of_side.number("up", counts.up);
+        }
+        Layers::Station => {}
+    }
+    object.object(side_letter(side), &of_side);
 }
 
-// Those of a station alone end with its periods.
-fn put_last_counts(
-    alloc: Global,
-    object: &mut Vec<u8>,
-    layers: Layers,
-    counts: SideSummary,
-) -> Result<(), AllocError> {
-    let SideSummary {
-        kept,
-        periods,
-        links,
-        up,
-        ..
-    } = counts;
-    let part = match layers {
-        Layers::Both | Layers::Queued => format!(in alloc;
-            ", \"kept\": {kept}, \"periods\": {periods}, \"links\": {links}, \"up\": {up}}}"
-        )?,
-        Layers::Station => format!(in alloc; ", \"kept\": {kept}, \"periods\": {periods}}}")?,
-    };
-    put(object, part.as_str())
+fn put_station_counts(of_side: &mut Members, counts: SideSummary) {
+    of_side.number("records", counts.records);
+    of_side.number("sent", counts.sent);
+    of_side.number("received", counts.received);
+    of_side.number("damaged", counts.damaged);
+    of_side.number("kept", counts.kept);
+    of_side.number("periods", counts.periods);
 }
 
-/// Appends where the refused record is.
-pub fn put_place(
-    alloc: Global,
-    object: &mut Vec<u8>,
-    side: Side,
-    place: u64,
-) -> Result<(), AllocError> {
+/// How a side is told, as a key and as words.
+pub fn side_letter(side: Side) -> &'static str {
+    match side {
+        Side::A => "a",
+        Side::B => "b",
+    }
+}
+
+/// Where the refused record is.
+pub fn put_place(object: &mut Members, side: Side, place: u64) {
+    object.text("side", side_letter(side));
+    object.number("record", place);
     // Wide, since a record's number may be any u64.
-    let line = u128::from(place) + 2;
-    let part = format!(in alloc; ", \"side\": \"{side}\", \"record\": {place}, \"line\": {line}")?;
-    put(object, part.as_str())
+    object.wide_number("line", u128::from(place) + 2);
 }
 
-/// Appends why it is refused.
-pub fn put_reason(alloc: Global, object: &mut Vec<u8>, reason: Reason) -> Result<(), AllocError> {
-    let number = reason.number();
-    let part = format!(in alloc; ", \"number\": {number}, \"name\": \"{reason}\"")?;
-    put(object, part.as_str())
+/// Why it is refused.
+pub fn put_reason(object: &mut Members, reason: Reason) {
+    object.number("number", u64::from(reason.number()));
+    object.shown("name", &reason);
 }
 
 // Who is accused, as far as one end tells.
-fn accused_key(accused: Accused) -> &'static str {
+fn put_accused(object: &mut Members, accused: Accused) {
     match accused {
-        Accused::ThisEnd => ", \"accuses\": null",
-        Accused::OtherEnd => ", \"accuses\": \"other end\"",
+        Accused::ThisEnd => object.null("accuses"),
+        Accused::OtherEnd => object.text("accuses", "other end"),
     }
 }
 
 // In which line something is wrong, and what.
-fn put_kind(alloc: Global, object: &mut Vec<u8>, kind: FaultKind) -> Result<(), AllocError> {
+fn put_kind(object: &mut Members, kind: FaultKind) {
     match kind {
         FaultKind::Departs { kind, line } => {
-            let part = format!(in alloc; ", \"line\": {line}, \"fault\": \"{kind}\"")?;
-            put(object, part.as_str())
+            object.number("line", line);
+            object.shown("fault", &kind);
         }
-        FaultKind::SameFile(other) => {
-            let part = format!(in alloc; ", \"line\": null, \"fault\": \"same file as {other}\"")?;
-            put(object, part.as_str())
-        }
-        FaultKind::NotOpened => put(object, ", \"line\": null, \"fault\": \"cannot open\""),
-        FaultKind::Read => put(object, ", \"line\": null, \"fault\": \"read failed\""),
-        FaultKind::Write => put(object, ", \"line\": null, \"fault\": \"write failed\""),
-        FaultKind::NoUnit => put(object, ", \"line\": null, \"fault\": \"no unit\""),
-        FaultKind::ReadOnce => {
-            put(
-                object,
-                ", \"line\": null, \"fault\": \"cannot be read twice\"",
-            )
-        }
-        FaultKind::OutOfMemory => put(object, ", \"line\": null, \"fault\": \"out of memory\""),
+        FaultKind::SameFile(other) => put_no_line(object, &SameFileAs(other)),
+        FaultKind::NotOpened => put_no_line(object, &"cannot open"),
+        FaultKind::Read => put_no_line(object, &"read failed"),
+        FaultKind::Write => put_no_line(object, &"write failed"),
+        FaultKind::NoUnit => put_no_line(object, &"no unit"),
+        FaultKind::ReadOnce => put_no_line(object, &"cannot be read twice"),
+        FaultKind::OutOfMemory => put_no_line(object, &"out of memory"),
+    }
+}
+
+fn put_no_line<T: fmt::Display>(object: &mut Members, fault: &T) {
+    object.null("line");
+    object.shown("fault", fault);
+}
+
+// A file that is to be written, and is this one too.
+#[derive(Clone, Copy)]
+struct SameFileAs(Named);
+
+impl fmt::Display for SameFileAs {
+    fn fmt<W: fmt::Write>(&self, f: &mut fmt::Formatter<W>) -> fmt::Result {
+        let other = self.0;
+        write!(f, "same file as {other}")
     }
 }

@@ -59,8 +59,8 @@ pub fn written_pair<R: Files + AllocGlobal, E: Write>(
     emptied_pair(rt, wanted_a, wanted_b, a, b, err)
 }
 
-/// Opens two files to be written and read back, beside one that is read, the first one first, and waits for no other end of a pipe. `Err`: one of them
-/// can't be opened, or is another one of the three. That was told. All keep what they have.
+/// Opens two files to be written and read back, beside one that is read, the first one first, and waits for no other end of a pipe. `Err`: one of
+/// them can't be opened, or is another one of the three. That was told. All keep what they have.
 pub fn opened_pair_to_write<R: Files + AllocGlobal, E: Write>(
     rt: &R,
     read: &Beside<'_, R::File>,

@@ -1,15 +1,24 @@
 //! What is wrong with bytes that show damage, in words (DDCMP 4.1, message formats).
 
-ghost use Rattle.std.specs.Prelude.{◌≡◌, ◌/◌, ◌%◌};
+ghost use Rattle.std.specs.Prelude.{◌≡◌, ◌≤◌, ◌/◌, ◌%◌, length};
 
 use crate::packet_words::ByteDigits;
 use crate::words::ByteCount;
 use std::fmt::{self, Formatter, Write};
 use wire_base::block_check;
 
-/// Writes what is wrong with a bad header: it is cut, or its block check is wrong, as `header bad: block check 7596 instead of 7595`.
+// The byte that a line sends before a unit, which is none of its own.
+const SYN: u8 = 0x96;
+
+/// Writes what is wrong with a bad header: it begins with SYN, it is cut, or its block check is wrong, as `header bad: block check 7596 instead of
+/// 7595`.
 pub fn write_header_fault<W: Write>(f: &mut Formatter<W>, bytes: &[u8]) -> fmt::Result {
     let length = bytes.len();
+    if let Some(first) = bytes.first() {
+        if *first == SYN {
+            return f.write_str("header bad: begins with SYN (96)");
+        }
+    }
     if length < 8 {
         return write_cut(f, "header bad: ", length, 8);
     }
@@ -17,15 +26,31 @@ pub fn write_header_fault<W: Write>(f: &mut Formatter<W>, bytes: &[u8]) -> fmt::
     write_check(f, &bytes[..6], bytes[6], bytes[7])
 }
 
-/// Writes what is wrong with bad data after a good header: they are cut, or their block check is wrong.
+/// Writes what is wrong with bad data after a good header: there are more than COUNT says, they are cut, or their block check is wrong; and the
+/// numbers in the header, as `data bad: COUNT says 159 bytes, 415 came  NUM 3  RESP 2`.
 pub fn write_data_fault<W: Write>(f: &mut Formatter<W>, bytes: &[u8]) -> fmt::Result {
     let length = bytes.len();
     if length < 8 {
         return f.write_str("data bad");
     }
-    let end = 8 + (usize::from(bytes[1]) + 256 * usize::from(bytes[2] % 64));
+    write_bad_data(f, bytes)?;
+    let resp = bytes[3];
+    let num = bytes[4];
+    write!(f, "  NUM {num}  RESP {resp}")
+}
+
+fn write_bad_data<W: Write>(f: &mut Formatter<W>, bytes: &[u8]) -> fmt::Result
+    requires { 8 ≤ length bytes.now }
+{
+    let length = bytes.len();
+    let count = usize::from(bytes[1]) + 256 * usize::from(bytes[2] % 64);
+    let end = 8 + count;
     if length < end + 2 {
         return write_cut(f, "data bad: ", length, end + 2);
+    }
+    if length > end + 2 {
+        let came = length - 10;
+        return write!(f, "data bad: COUNT says {count} bytes, {came} came");
     }
     f.write_str("data bad: ")?;
     write_check(f, &bytes[8..end], bytes[end], bytes[end + 1])

@@ -6,6 +6,7 @@ mod ack_words;
 mod calls;
 mod damage_words;
 mod event_words;
+mod field_words;
 pub mod layers;
 pub mod lines;
 pub mod nsp_words;

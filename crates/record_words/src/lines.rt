@@ -9,6 +9,10 @@ pub struct Lines {
     pub ended: Option<u64>,
     /// At which the other side waits.
     pub other_at: Option<u64>,
+    /// In which a STRT came that halted the station of this side, if it is halted.
+    pub halted: Option<u64>,
+    /// Whether a live link has the two addresses that the record names, exchanged.
+    pub exchanged: bool,
 }
 
 impl Lines {
@@ -18,6 +22,8 @@ impl Lines {
             since: None,
             ended: None,
             other_at: None,
+            halted: None,
+            exchanged: false,
         }
     }
 }

@@ -26,6 +26,8 @@ pub struct SidePast {
     boot: Option<u64>,
     // The number of its last new data message.
     given: u8,
+    // In which line the first STRT came since it sent a unit, started, or got a message by which it may have got into RUNNING.
+    halted: Option<u64>,
     links: BTreeMap<u16, Past>,
     calls: Calls,
 }
@@ -38,6 +40,7 @@ impl SidePast {
             has_begun: false,
             boot: None,
             given: 0,
+            halted: None,
             links: BTreeMap::new(alloc),
             calls: Calls::new(alloc),
         }
@@ -53,16 +56,9 @@ impl SidePast {
                 self.calls.connected(partner, link, true)?;
                 self.begin(link, Some(partner), line)
             }
-            Entry::Received {
-                fate: Fate::Kept,
-                hint: _,
-            } => {
-                match message_in_unit(bytes) {
-                    Some(message) => self.arrived(message, line),
-                    None => Ok(()),
-                }
-            }
+            Entry::Received { fate, hint: _ } => self.received(fate, bytes, line),
             Entry::Sent => {
+                self.halted = None;
                 self.sent(bytes);
                 Ok(())
             }
@@ -72,11 +68,13 @@ impl SidePast {
             }
             Entry::Start | Entry::Halt => {
                 self.has_begun = true;
+                self.halted = None;
                 self.given = 0;
                 Ok(())
             }
             Entry::Boot => {
                 self.has_begun = true;
+                self.halted = None;
                 self.boot = Some(line);
                 self.calls.boot();
                 Ok(())
@@ -99,12 +97,47 @@ impl SidePast {
         self.calls.may_go_on(far)
     }
 
-    /// The lines of the last link that got this own address, unless it is named with another far one.
+    /// The lines of the last link that got this own address, unless it is named with another far one; that of the STRT which halted the station,
+    /// if it is halted; and whether the last link that got the far address as its own lives, and has this own one as its far one.
     pub fn lines(&self, own: Option<u16>, far: Option<u16>) -> Lines {
-        match self.past(own) {
+        let of_link = match self.past(own) {
             Some(past) => past.lines(far),
             None => Lines::none(),
+        };
+        Lines {
+            halted: self.halted,
+            exchanged: self.is_exchanged(own, far),
+            ..of_link
         }
+    }
+
+    fn is_exchanged(&self, own: Option<u16>, far: Option<u16>) -> bool {
+        match self.past(far) {
+            Some(past) => past.ended.is_none() && past.far.is_some() && past.far == own,
+            None => false,
+        }
+    }
+
+    // A unit came. Of a STRT it is not told here whether it halts the station.
+    fn received(&mut self, fate: Fate, bytes: &[u8], line: u64) -> Result<(), AllocError> {
+        if let Fate::Kept = fate {
+            return match message_in_unit(bytes) {
+                Some(message) => self.arrived(message, line),
+                None => Ok(()),
+            };
+        }
+        match read_unit(bytes) {
+            Reading::Sound(Message::Strt { .. }) => {
+                if self.halted.is_none() {
+                    self.halted = Some(line);
+                }
+            }
+            Reading::Sound(Message::Stack { .. }) | Reading::Sound(Message::Ack { .. }) => {
+                self.halted = None;
+            }
+            _ => {}
+        }
+        Ok(())
     }
 
     // A link got this address.

@@ -1,6 +1,7 @@
 //! What the bytes of a unit say, in words (DDCMP 4.1, message formats).
 
 use crate::damage_words::{write_data_fault, write_header_fault};
+use crate::field_words::write_wrong_field;
 use ddcmp_msg::{Departure, Flags, Message, NakReason, Reading};
 use std::fmt::{self, Formatter, Write};
 
@@ -17,6 +18,7 @@ impl fmt::Display for ReadingWords<'_> {
             Reading::Sound(message) => write_message(f, message),
             Reading::HeaderBad => write_header_fault(f, self.bytes),
             Reading::DataBad => write_data_fault(f, self.bytes),
+            Reading::Malformed(Departure::WrongField) => write_wrong_field(f, self.bytes),
             Reading::Malformed(departure) => f.write_str(departure_words(departure)),
         }
     }

@@ -41,7 +41,8 @@ pub fn write_wanted<W: Write>(f: &mut Formatter<W>, wanted: LinkTest) -> fmt::Re
     }
 }
 
-/// Writes that there is no such link, in which line one with this own address ended, and whether a live link has one of its addresses.
+/// Writes that there is no such link, in which line one with this own address ended, and whether a live link has one of its addresses, or both,
+/// exchanged.
 pub fn write_missing<W: Write>(
     f: &mut Formatter<W>,
     missing: MissingLink,
@@ -52,6 +53,14 @@ pub fn write_missing<W: Write>(
         "; a live link has that own address",
     );
     let far = words_if(missing.with_far, "; a live link has that far address");
+    if lines.exchanged {
+        if let LinkTest::TheLink { own, far } = missing.wanted {
+            return write!(
+                f,
+                "no such link; the link {far}-{own} is live: are they exchanged?"
+            );
+        }
+    }
     f.write_str("no such link")?;
     if let Some(line) = ended_in(missing.wanted, lines) {
         write!(f, "; it ended in line {line}")?;

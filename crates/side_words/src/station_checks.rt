@@ -5,6 +5,7 @@ use crate::data_bytes::{write_first_byte, write_seen_byte};
 use crate::state_line::state_name;
 use ddcmp_msg::Reading;
 use ddcmp_station::{FailedSending, State};
+use record_words::lines::Lines;
 use record_words::unit_words::ReadingName;
 use record_words::words::words_if;
 use std::fmt::{self, Formatter, Write};
@@ -23,16 +24,18 @@ pub fn sending_check(failed: FailedSending) -> &'static str {
     }
 }
 
-/// Writes what there is where a message does not pass the check.
+/// Writes what there is where a message does not pass the check, and what halted the station, if that is why.
 pub fn write_sending_seen<W: Write>(
     f: &mut Formatter<W>,
     failed: FailedSending,
     reading: Reading<'_>,
+    lines: Lines,
 ) -> fmt::Result {
     match failed {
         FailedSending::State { seen } => {
             let name = ReadingName { reading };
-            write!(f, "{name} in {}", state_name(seen))
+            write!(f, "{name} in {}", state_name(seen))?;
+            write_halted(f, seen, lines)
         }
         FailedSending::RespIsLast { seen, .. } => write!(f, "RESP {seen}"),
         FailedSending::NumIsNext { seen, .. } => write!(f, "NUM {seen}"),
@@ -46,6 +49,14 @@ pub fn write_sending_seen<W: Write>(
             let reason = seen.number();
             write!(f, "a NAK of reason {reason}, of which no cause is open")
         }
+    }
+}
+
+// Writes by which line a station is halted, where that was a STRT.
+fn write_halted<W: Write>(f: &mut Formatter<W>, state: State, lines: Lines) -> fmt::Result {
+    match (state, lines.halted) {
+        (State::Halted, Some(line)) => write!(f, ", halted by the STRT on line {line}"),
+        _ => Ok(()),
     }
 }
 

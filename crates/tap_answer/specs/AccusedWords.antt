@@ -9,21 +9,21 @@ use Rattle.wire_tap.specs.declared.accusation.Accused.{Accused}
 use Rattle.wire_tap.specs.declared.accusation.Broken.{Broken}
 use Rattle.wire_tap.specs.declared.accusation.Broken.TheVariants.{Begins, Skipped, Damaged, Exchanged, NotBetween}
 use Rattle.wire_tap.specs.declared.accusation.Exception.{Exception}
-use Rattle.wire_tap.specs.declared.accusation.Exception.TheVariants.{AcknowledgementQueue, IsRouter, OtherIsRouter, GaveUpCall, OtherSubchannel}
+use Rattle.wire_tap.specs.declared.accusation.Exception.TheVariants.{AcknowledgementQueue, IsRouter, NamesOther, GaveUpCall, OtherSubchannel}
 use Rattle.wire_tap.specs.declared.tapped.Passed.{Passed}
+use Rattle.tap_answer.specs.SparedWords.{all_spared_words, blamed}
 
--- what a side must not do to be at fault
-abbrev pub exception_words : Side → Exception → List ℕ
-exception_words side AcknowledgementQueue = codes ", and its acknowledgements do not wait in a queue of their own"
-exception_words side IsRouter = codes ", and it is no router"
-exception_words A OtherIsRouter = codes ", and side b is no router"
-exception_words B OtherIsRouter = codes ", and side a is no router"
-exception_words side GaveUpCall = codes ", and its user did not give up the call"
-exception_words side OtherSubchannel = codes ", and no message of the other subchannel acknowledged data"
+-- what a side must not do to be at fault; where its packet names another node, nobody is accused
+abbrev pub exception_words : Exception → List ℕ
+exception_words AcknowledgementQueue = codes ", and its acknowledgements do not wait in a queue of their own"
+exception_words IsRouter = codes ", and it is no router"
+exception_words (NamesOther node) = []
+exception_words GaveUpCall = codes ", and its user did not give up the call"
+exception_words OtherSubchannel = codes ", and no message of the other subchannel acknowledged data"
 
-abbrev pub unless_words : Side → Option Exception → List ℕ
-unless_words side None = []
-unless_words side (Some unless) = exception_words side unless
+abbrev pub unless_words : Option Exception → List ℕ
+unless_words None = []
+unless_words (Some unless) = exception_words unless
 
 abbrev pub none_sends_words : List ℕ
 none_sends_words = codes "no correct node sends this, whatever it received"
@@ -32,7 +32,7 @@ none_sends_words = codes "no correct node sends this, whatever it received"
 abbrev pub at_fault_words_of : Passed → Option Exception → List ℕ
 at_fault_words_of passed unless =
     codes "\nside " ++ (side_letter passed.side ++ (codes " is at fault at its unit " ++ (decimal passed.unit
-    ++ (codes " (line " ++ (decimal passed.line ++ (codes "), if the recording is whole" ++ (unless_words passed.side unless
+    ++ (codes " (line " ++ (decimal passed.line ++ (codes "), if the recording is whole" ++ (unless_words unless
     ++ (codes ": " ++ none_sends_words))))))))
 
 abbrev pub at_fault_words : Option Accusation → List ℕ
@@ -83,7 +83,7 @@ mend_words (Begins side) = codes "record again from before the first STRT"
 mend_words (Skipped side bytes before) = codes "record again"
 mend_words (Damaged passed) = codes "record again"
 mend_words Exchanged = codes "exchange them in the head"
-mend_words (NotBetween side) = codes "correct the head, or use tap --line if the line joins routers"
+mend_words (NotBetween side) = codes "correct the head, or use tap --line if the line leads to a router"
 
 -- of what nobody is accused: of nothing at all, or of nothing but what the lines before name
 abbrev pub of_words : Bool → List ℕ
@@ -104,7 +104,8 @@ names_unit None None None None = false
 -- the units that are named
 abbrev pub named_words : Accused → List ℕ
 named_words accused =
-    both_at_fault_words accused.a accused.b ++ (discarded_words accused.segment_a ++ discarded_words accused.segment_b)
+    both_at_fault_words (blamed accused.a) (blamed accused.b) ++ (all_spared_words accused
+    ++ (discarded_words accused.segment_a ++ discarded_words accused.segment_b))
 
 -- whom the answer accuses, and what shows that the recording is not whole: it is told alone, or after the units that had passed before it
 abbrev pub accused_words_of : Option Broken → Bool → Accused → List ℕ
@@ -114,4 +115,4 @@ accused_words_of (Some broken) false accused = codes "\n" ++ broken_words false 
 
 abbrev pub accused_words : Accused → List ℕ
 accused_words accused =
-    accused_words_of accused.broken (names_unit accused.a accused.b accused.segment_a accused.segment_b) accused
+    accused_words_of accused.broken (names_unit (blamed accused.a) (blamed accused.b) accused.segment_a accused.segment_b) accused

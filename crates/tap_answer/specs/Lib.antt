@@ -1,4 +1,5 @@
 pub mod Telling
 pub mod Words
+pub mod SparedWords
 pub mod AccusedWords
 pub mod Before

@@ -60,7 +60,8 @@ apart_words passed reason =
 
 -- `unexplained after the last unit: 14 WrongUserEvent`
 abbrev pub unexplained_end_words : Reason → Accused → List ℕ
-unexplained_end_words reason accused = codes "unexplained after the last unit: " ++ (reason_words reason accused ++ (codes "\n" ++ (rests_words ++ codes "\n")))
+unexplained_end_words reason accused = codes "unexplained after the last unit: "
+    ++ (reason_words reason accused ++ (codes "\n" ++ (rests_words ++ codes "\n")))
 
 -- `a unit 7 line 16: too wide a choice`
 abbrev pub too_wide_words : Passed → List ℕ

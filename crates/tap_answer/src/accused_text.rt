@@ -2,10 +2,11 @@
 
 ghost use Rattle.std.specs.Prelude.{◌≡◌};
 ghost use Rattle.tap_answer.specs.AccusedWords.{names_unit};
+ghost use Rattle.tap_answer.specs.SparedWords.{blamed};
 
 use crate::broken_text::BrokenWords;
+use crate::spared_text::{AllSparedWords, blamed};
 use std::fmt;
-use wire_base::Side;
 use wire_tap::{Accusation, Accused, Exception, Passed};
 
 /// A unit, as it is named.
@@ -26,10 +27,9 @@ impl fmt::Display for UnitWords {
     }
 }
 
-// What a side must not do to be at fault.
+// What a side must not do to be at fault. Where its packet names another node, nobody is accused.
 #[derive(Clone, Copy)]
 struct ExceptionWords {
-    side: Side,
     unless: Option<Exception>,
 }
 
@@ -37,7 +37,7 @@ impl fmt::Display for ExceptionWords {
     ghost use Rattle.std.specs.Prelude.{Some};
     ghost use Rattle.tap_answer.specs.AccusedWords.{unless_words};
 
-    ghost output = { λ words. Some (unless_words words.side words.unless) };
+    ghost output = { λ words. Some (unless_words words.unless) };
 
     fn fmt<W: fmt::Write>(&self, f: &mut fmt::Formatter<W>) -> fmt::Result {
         let Some(unless) = self.unless else {
@@ -48,10 +48,7 @@ impl fmt::Display for ExceptionWords {
                 f.write_str(", and its acknowledgements do not wait in a queue of their own")
             }
             Exception::IsRouter => f.write_str(", and it is no router"),
-            Exception::OtherIsRouter => match self.side {
-                Side::A => f.write_str(", and side b is no router"),
-                Side::B => f.write_str(", and side a is no router"),
-            },
+            Exception::NamesOther { .. } => Ok(()),
             Exception::GaveUpCall => f.write_str(", and its user did not give up the call"),
             Exception::OtherSubchannel => {
                 f.write_str(", and no message of the other subchannel acknowledged data")
@@ -93,7 +90,6 @@ impl fmt::Display for AtFaultWords {
         };
         let Passed { side, unit, line } = accusation.passed;
         let exception = ExceptionWords {
-            side,
             unless: accusation.unless,
         };
         let why = NoneSendsWords {};
@@ -175,7 +171,7 @@ impl fmt::Display for BothAtFaultWords {
     }
 }
 
-// The units that are named: at fault, or sent only by a node that discarded packets.
+// The units that are named: at fault, spared, or sent only by a node that discarded packets.
 #[derive(Clone, Copy)]
 struct NamedWords {
     accused: Accused,
@@ -195,10 +191,16 @@ impl fmt::Display for NamedWords {
             segment_b,
             ..
         } = self.accused;
-        let both = BothAtFaultWords { a, b };
+        let both = BothAtFaultWords {
+            a: blamed(a),
+            b: blamed(b),
+        };
+        let spared = AllSparedWords {
+            accused: self.accused,
+        };
         let of_a = DiscardedWords { passed: segment_a };
         let of_b = DiscardedWords { passed: segment_b };
-        write!(f, "{both}{of_a}{of_b}")
+        write!(f, "{both}{spared}{of_a}{of_b}")
     }
 }
 
@@ -237,12 +239,12 @@ impl fmt::Display for AccusedWords {
 
 // Whether a unit is named.
 fn names_a_unit(accused: Accused) -> bool
-    ensures { result ≡ names_unit accused.a accused.b accused.segment_a accused.segment_b }
+    ensures { result ≡ names_unit (blamed accused.a) (blamed accused.b) accused.segment_a accused.segment_b }
 {
-    let None = accused.a else {
+    let None = blamed(accused.a) else {
         return true;
     };
-    let None = accused.b else {
+    let None = blamed(accused.b) else {
         return true;
     };
     let None = accused.segment_a else {

@@ -126,7 +126,7 @@ impl fmt::Display for MendWords {
             Broken::Skipped { .. } | Broken::Damaged { .. } => f.write_str("record again"),
             Broken::Exchanged => f.write_str("exchange them in the head"),
             Broken::NotBetween { .. } => {
-                f.write_str("correct the head, or use tap --line if the line joins routers")
+                f.write_str("correct the head, or use tap --line if the line leads to a router")
             }
         }
     }

@@ -8,6 +8,7 @@ mod accused_text;
 mod assuming;
 mod broken_text;
 mod counting;
+mod spared_text;
 mod told;
 mod told_text;
 

@@ -49,7 +49,8 @@ module _ (nodes : NodeKind) (text : Verdict → List ℕ) (captured : Captured) 
 
   -- what is said of a verdict
   pub tells_verdict : (verdict : Verdict) (status : ℕ) → IsAnswer nodes s.a.old.bytes s.b.old.bytes (Ok verdict) → CountsOf (Ok verdict) →
-      TellsTold (text verdict) captured s (telling captured.is_apart captured.tapped.ending verdict) status → ChecksTap nodes text captured s (Ok status)
+      TellsTold (text verdict) captured s (telling captured.is_apart captured.tapped.ending verdict) status →
+      ChecksTap nodes text captured s (Ok status)
   tells_verdict verdict status judged counts (inl told) =
       record { answer = Ok verdict; judged = judged; reads_a = counts.0; reads_b = counts.1; printed = told }
   tells_verdict verdict status judged counts (inr told) = tells_nothing status counts told

@@ -2,6 +2,7 @@
 //! there is an answer.
 #![tactic(auto)]
 
+mod departure;
 mod packet_capture;
 pub mod tap;
 mod tap_accused;

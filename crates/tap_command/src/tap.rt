@@ -57,8 +57,8 @@ pub struct RefusedAt {
     pub place: u64,
 }
 
-/// Judges the captures that two readers give, which a tap wrote, over these layers; prints the answer, and answers the status. Where they are refused, and were not cut for that, nothing is printed, and the answer is the refused
-/// record.
+/// Judges the captures that two readers give, which a tap wrote, over these layers; prints the answer, and answers the status. Where they are
+/// refused, and were not cut for that, nothing is printed, and the answer is the refused record.
 ///
 /// Printed to `out`: the verdict as `check_to` prints it, status 0, or `unexplained ..` or `apart: ..`, status 1, each followed by the boots and
 /// aborts that are assumed, by what it rests on, and what was skipped. To `err`: `.. too wide a choice`, status 2, and the faults that `check_to`

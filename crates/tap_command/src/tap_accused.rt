@@ -1,31 +1,23 @@
 //! Whom an answer of `tap` accuses, under which conditions, and what shows that nobody can be, in its JSON object.
 
-use printing::objects::put;
-use std::alloc::{AllocError, Global};
-use wire_base::Side;
+use beyond::{NodeKind, NodeWords};
+use json_text::{Elements, Members};
+use printing::objects::side_letter;
+use std::alloc::Global;
 use wire_tap::{Accusation, Accused, Broken, Exception, Passed};
 
 /// The units that no correct node sent, and those that one sent only if it discarded packets that it had composed.
-pub fn put_accused(
-    alloc: Global,
-    object: &mut Vec<u8>,
-    accused: Accused,
-) -> Result<(), AllocError> {
-    put(object, ", \"accused\": [")?;
-    put_both_accused(
-        alloc,
-        object,
-        with_exception(accused.a),
-        with_exception(accused.b),
-    )?;
-    put(object, "], \"accused_unless_dropped\": [")?;
-    put_both_accused(
-        alloc,
-        object,
-        with_packets_kept(accused.segment_a),
-        with_packets_kept(accused.segment_b),
-    )?;
-    put(object, "]")
+pub fn put_accused(alloc: Global, object: &mut Members, accused: Accused) {
+    let a = with_exception(accused.a);
+    let b = with_exception(accused.b);
+    object.array("accused", &both_accused(alloc, a, b));
+    let a = spared_in(accused.a);
+    let b = spared_in(accused.b);
+    object.array("not_accused", &both_spared(alloc, a, b));
+    object.object("init", &kinds(alloc, accused.kind_a, accused.kind_b));
+    let a = with_packets_kept(accused.segment_a);
+    let b = with_packets_kept(accused.segment_b);
+    object.array("accused_unless_dropped", &both_accused(alloc, a, b));
 }
 
 // A unit that is accused, and what is asked for that besides that the recording is whole: a word of the list, or none.
@@ -41,11 +33,59 @@ fn with_exception(accusation: Option<Accusation>) -> Option<Conditional> {
         None => None,
         Some(Exception::AcknowledgementQueue) => Some("no acknowledgement queue"),
         Some(Exception::IsRouter) => Some("no router"),
-        Some(Exception::OtherIsRouter) => Some("other side no router"),
+        // nobody is accused of it
+        Some(Exception::NamesOther { .. }) => return None,
         Some(Exception::GaveUpCall) => Some("no call given up"),
         Some(Exception::OtherSubchannel) => Some("no acknowledgement in the other subchannel"),
     };
     Some(Conditional { passed, word })
+}
+
+// A unit of which nobody is accused, since its packet names this node.
+#[derive(Clone, Copy)]
+struct Spared {
+    passed: Passed,
+    node: u16,
+}
+
+fn spared_in(accusation: Option<Accusation>) -> Option<Spared> {
+    let Accusation { passed, unless } = accusation?;
+    match unless {
+        Some(Exception::NamesOther { node }) => Some(Spared { passed, node }),
+        _ => None,
+    }
+}
+
+fn both_spared(alloc: Global, a: Option<Spared>, b: Option<Spared>) -> Elements {
+    let mut both = Elements::new(alloc);
+    put_spared(alloc, &mut both, a);
+    put_spared(alloc, &mut both, b);
+    both
+}
+
+fn put_spared(alloc: Global, all: &mut Elements, spared: Option<Spared>) {
+    let Some(Spared { passed, node }) = spared else {
+        return;
+    };
+    let mut object = Members::new(alloc);
+    put_passed(&mut object, passed);
+    object.shown("node", &NodeWords { node });
+    all.object(&object);
+}
+
+// What each side says that it is.
+fn kinds(alloc: Global, a: Option<NodeKind>, b: Option<NodeKind>) -> Members {
+    let mut both = Members::new(alloc);
+    put_kind(&mut both, "a", a);
+    put_kind(&mut both, "b", b);
+    both
+}
+
+fn put_kind(both: &mut Members, key: &str, kind: Option<NodeKind>) {
+    match kind {
+        Some(kind) => both.shown(key, &kind),
+        None => both.null(key),
+    }
 }
 
 fn with_packets_kept(passed: Option<Passed>) -> Option<Conditional> {
@@ -55,84 +95,72 @@ fn with_packets_kept(passed: Option<Passed>) -> Option<Conditional> {
     })
 }
 
-fn put_both_accused(
-    alloc: Global,
-    object: &mut Vec<u8>,
-    a: Option<Conditional>,
-    b: Option<Conditional>,
-) -> Result<(), AllocError> {
-    put_one_accused(alloc, object, a)?;
-    if a.is_some() && b.is_some() {
-        put(object, ", ")?;
-    }
-    put_one_accused(alloc, object, b)
+fn both_accused(alloc: Global, a: Option<Conditional>, b: Option<Conditional>) -> Elements {
+    let mut both = Elements::new(alloc);
+    put_conditional(alloc, &mut both, a);
+    put_conditional(alloc, &mut both, b);
+    both
 }
 
-fn put_one_accused(
-    alloc: Global,
-    object: &mut Vec<u8>,
-    accused: Option<Conditional>,
-) -> Result<(), AllocError> {
+fn put_conditional(alloc: Global, all: &mut Elements, accused: Option<Conditional>) {
     let Some(Conditional { passed, word }) = accused else {
-        return Ok(());
+        return;
     };
-    put(object, "{")?;
-    put_passed(alloc, object, passed)?;
-    put(object, ", \"if\": [\"whole recording\"")?;
+    let mut conditions = Elements::new(alloc);
+    conditions.text("whole recording");
     if let Some(word) = word {
-        put(object, ", \"")?;
-        put(object, word)?;
-        put(object, "\"")?;
+        conditions.text(word);
     }
-    put(object, "]}")
+    let mut object = Members::new(alloc);
+    put_passed(&mut object, passed);
+    object.array("if", &conditions);
+    all.object(&object);
 }
 
 /// Which unit it is.
-pub fn put_passed(alloc: Global, object: &mut Vec<u8>, passed: Passed) -> Result<(), AllocError> {
+pub fn put_passed(object: &mut Members, passed: Passed) {
     let Passed { side, unit, line } = passed;
-    let part = format!(in alloc; "\"side\": \"{side}\", \"unit\": {unit}, \"line\": {line}")?;
-    put(object, part.as_str())
+    object.text("side", side_letter(side));
+    object.number("unit", unit);
+    object.number("line", line);
 }
 
 /// What shows that the recording is not whole, or `null`.
-pub fn put_recording(
-    alloc: Global,
-    object: &mut Vec<u8>,
-    broken: Option<Broken>,
-) -> Result<(), AllocError> {
-    let Some(broken) = broken else {
-        return put(object, ", \"recording\": null");
-    };
-    put(object, ", \"recording\": {\"what\": \"")?;
-    put_broken(alloc, object, broken)?;
-    put(object, "}")
+pub fn put_recording(alloc: Global, object: &mut Members, broken: Option<Broken>) {
+    match broken {
+        Some(broken) => object.object("recording", &broken_told(alloc, broken)),
+        None => object.null("recording"),
+    }
 }
 
-fn put_broken(alloc: Global, object: &mut Vec<u8>, broken: Broken) -> Result<(), AllocError> {
+fn broken_told(alloc: Global, broken: Broken) -> Members {
+    let mut told = Members::new(alloc);
     match broken {
-        Broken::Begins { side } => put_side(alloc, object, "begins in the middle", side),
+        Broken::Begins { side } => {
+            told.text("what", "begins in the middle");
+            told.text("side", side_letter(side));
+        }
         Broken::Skipped {
             side,
             bytes,
             before,
         } => {
-            let part = format!(in alloc;
-                "bytes skipped\", \"side\": \"{side}\", \"bytes\": {bytes}, \"before\": {{"
-            )?;
-            put(object, part.as_str())?;
-            put_passed(alloc, object, before)?;
-            put(object, "}")
+            told.text("what", "bytes skipped");
+            told.text("side", side_letter(side));
+            told.number("bytes", bytes);
+            let mut unit = Members::new(alloc);
+            put_passed(&mut unit, before);
+            told.object("before", &unit);
         }
         Broken::Damaged { passed } => {
-            put(object, "unit damaged\", ")?;
-            put_passed(alloc, object, passed)
+            told.text("what", "unit damaged");
+            put_passed(&mut told, passed);
         }
-        Broken::Exchanged => put(object, "addresses exchanged\""),
-        Broken::NotBetween { side } => put_side(alloc, object, "no packet between the nodes", side),
+        Broken::Exchanged => told.text("what", "addresses exchanged"),
+        Broken::NotBetween { side } => {
+            told.text("what", "no packet between the nodes");
+            told.text("side", side_letter(side));
+        }
     }
-}
-
-fn put_side(alloc: Global, object: &mut Vec<u8>, what: &str, side: Side) -> Result<(), AllocError> {
-    let part = format!(in alloc; "{what}\", \"side\": \"{side}\"")?;
-    put(object, part.as_str())
+    told
 }

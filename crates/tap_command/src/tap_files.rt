@@ -2,6 +2,7 @@
 
 ghost use Rattle.std.specs.Prelude.{◌≡◌, true, is_ok, IfOk};
 
+use crate::departure::tell_departure;
 use crate::packet_capture::tell_packet_capture;
 use crate::tap::{Captured, RefusedAt, print_no_unit, tap_to, tell_tap_fault};
 use crate::tap_apart::are_apart;
@@ -57,7 +58,10 @@ pub fn tap_files<R: Files + AllocGlobal, O: Write, E: Write>(
 ) -> u8 {
     match tap_whole(rt, form, paths, out, err) {
         Ok(status) => status,
-        Err(told) => not_judged(rt, form, paths.wire, told, out),
+        Err(told) => {
+            let told = tell_departure(rt, paths.wire, told, err);
+            not_judged(rt, form, paths.wire, told, out)
+        }
     }
 }
 

@@ -9,15 +9,16 @@ ghost use Rattle.pair_judge.specs.JudgedAs.{nodes_of};
 
 use crate::tap::{ACCEPTED, Captured, RefusedAt, UNEXPLAINED, to_be_cut};
 use crate::tap_accused::{put_accused, put_passed, put_recording};
+use json_text::{Elements, Members};
 use pair_judge::{Reason, Verdict};
 use placing::{Assumed, Turn};
 use printing::answers::{print_object, print_told};
 use printing::check::{print, print_fault, print_out_of_memory};
 use printing::fault_told::FaultTold;
 use printing::layers::{Layers, judge_over};
-use printing::objects::{begun, ended, put, put_counts, put_reason};
+use printing::objects::{begun, put_counts, put_reason};
 use printing::text::FAULTY;
-use std::alloc::{AllocError, Global};
+use std::alloc::Global;
 use std::io::{Read, Write};
 use tap_answer::{Told, said_of, too_wide_text};
 use wire_base::{Side, Tally};
@@ -105,34 +106,20 @@ fn accepted_object(
     name: &str,
     verdict: Verdict,
     captured: Captured<'_>,
-) -> Result<Vec<u8>, AllocError> {
-    let mut object = begun(alloc, "accepted", name)?;
-    put_accepted(alloc, &mut object, layers, verdict)?;
-    put_captured(alloc, &mut object, captured)?;
-    ended(object)
-}
-
-fn put_accepted(
-    alloc: Global,
-    object: &mut Vec<u8>,
-    layers: Layers,
-    verdict: Verdict,
-) -> Result<(), AllocError> {
-    let Verdict::Accepted(summary) = verdict else {
-        return Ok(());
-    };
-    put_counts(alloc, object, layers, Side::A, summary.a)?;
-    put_counts(alloc, object, layers, Side::B, summary.b)
+) -> Members {
+    let mut object = begun(alloc, "accepted", name);
+    if let Verdict::Accepted(summary) = verdict {
+        put_counts(alloc, &mut object, layers, Side::A, summary.a);
+        put_counts(alloc, &mut object, layers, Side::B, summary.b);
+    }
+    put_captured(alloc, &mut object, captured);
+    object
 }
 
 // What is assumed, and what was skipped.
-fn put_captured(
-    alloc: Global,
-    object: &mut Vec<u8>,
-    captured: Captured<'_>,
-) -> Result<(), AllocError> {
-    put_assumed(alloc, object, captured.turns)?;
-    put_skipped(alloc, object, captured.tapped)
+fn put_captured(alloc: Global, object: &mut Members, captured: Captured<'_>) {
+    object.array("assumed", &assumed(alloc, captured.turns));
+    put_skipped(alloc, object, captured.tapped);
 }
 
 // They are refused, for this reason, and end with this unit, if one is named.
@@ -142,23 +129,13 @@ fn unexplained_object(
     passed: Option<Passed>,
     reason: Reason,
     captured: Captured<'_>,
-) -> Result<Vec<u8>, AllocError> {
-    let mut object = begun(alloc, "unexplained", name)?;
-    put_unexplained(alloc, &mut object, passed, reason, captured)?;
-    ended(object)
-}
-
-fn put_unexplained(
-    alloc: Global,
-    object: &mut Vec<u8>,
-    passed: Option<Passed>,
-    reason: Reason,
-    captured: Captured<'_>,
-) -> Result<(), AllocError> {
-    put_refused(alloc, object, passed, reason)?;
-    put_accused(alloc, object, captured.accused)?;
-    put_recording(alloc, object, captured.accused.broken)?;
-    put_captured(alloc, object, captured)
+) -> Members {
+    let mut object = begun(alloc, "unexplained", name);
+    put_refused(&mut object, passed, reason);
+    put_accused(alloc, &mut object, captured.accused);
+    put_recording(alloc, &mut object, captured.accused.broken);
+    put_captured(alloc, &mut object, captured);
+    object
 }
 
 // The same, though each side is explained by itself.
@@ -168,45 +145,37 @@ fn apart_object(
     passed: Passed,
     reason: Reason,
     captured: Captured<'_>,
-) -> Result<Vec<u8>, AllocError> {
-    let mut object = begun(alloc, "apart", name)?;
-    put_refused(alloc, &mut object, Some(passed), reason)?;
-    put_captured(alloc, &mut object, captured)?;
-    ended(object)
+) -> Members {
+    let mut object = begun(alloc, "apart", name);
+    put_refused(&mut object, Some(passed), reason);
+    put_captured(alloc, &mut object, captured);
+    object
 }
 
 // The unit with which they end, if one is named, and the reason.
-fn put_refused(
-    alloc: Global,
-    object: &mut Vec<u8>,
-    passed: Option<Passed>,
-    reason: Reason,
-) -> Result<(), AllocError> {
+fn put_refused(object: &mut Members, passed: Option<Passed>, reason: Reason) {
     match passed {
-        Some(passed) => put_unit(alloc, object, passed)?,
-        None => put(object, ", \"side\": null, \"unit\": null, \"line\": null")?,
+        Some(passed) => put_passed(object, passed),
+        None => {
+            object.null("side");
+            object.null("unit");
+            object.null("line");
+        }
     }
-    put_reason(alloc, object, reason)
+    put_reason(object, reason);
 }
 
 // There were too many states to try before this unit.
-fn too_wide_object(alloc: Global, name: &str, passed: Passed) -> Result<Vec<u8>, AllocError> {
-    let mut object = begun(alloc, "fault", name)?;
-    put_unit(alloc, &mut object, passed)?;
-    put(&mut object, ", \"fault\": \"too wide a choice\"")?;
-    ended(object)
-}
-
-// Which unit it is.
-fn put_unit(alloc: Global, object: &mut Vec<u8>, passed: Passed) -> Result<(), AllocError> {
-    put(object, ", ")?;
-    put_passed(alloc, object, passed)
+fn too_wide_object(alloc: Global, name: &str, passed: Passed) -> Members {
+    let mut object = begun(alloc, "fault", name);
+    put_passed(&mut object, passed);
+    object.text("fault", "too wide a choice");
+    object
 }
 
 // The boots and aborts that are assumed.
-fn put_assumed(alloc: Global, object: &mut Vec<u8>, turns: &[Turn]) -> Result<(), AllocError> {
-    put(object, ", \"assumed\": [")?;
-    let mut is_first = true;
+fn assumed(alloc: Global, turns: &[Turn]) -> Elements {
+    let mut told = Elements::new(alloc);
     for turn in turns {
         let event = match turn.what {
             Assumed::Keeps { most: _ } | Assumed::Anew { is_anew: _ } => continue,
@@ -214,52 +183,34 @@ fn put_assumed(alloc: Global, object: &mut Vec<u8>, turns: &[Turn]) -> Result<()
             Assumed::Boots => "boot",
             Assumed::GivesUp => "abort",
         };
-        put(
-            object,
-            if is_first {
-                "{\"event\": \""
-            } else {
-                ", {\"event\": \""
-            },
-        )?;
-        put(object, event)?;
-        put(object, "\"")?;
         let Turn {
             side,
             unit,
             line,
             ..
         } = *turn;
-        put_unit(alloc, object, Passed { side, unit, line })?;
-        put(object, "}")?;
-        is_first = false;
+        let mut object = Members::new(alloc);
+        object.text("event", event);
+        put_passed(&mut object, Passed { side, unit, line });
+        told.object(&object);
     }
-    put(object, "]")
+    told
 }
 
 // What was skipped of each side, and whether that was more than what was read.
-fn put_skipped(alloc: Global, object: &mut Vec<u8>, tapped: Tapped) -> Result<(), AllocError> {
-    put(object, ", \"skipped\": {")?;
-    put_side(alloc, object, Side::A, tapped.skipped_a)?;
-    put(object, ", ")?;
-    put_side(alloc, object, Side::B, tapped.skipped_b)?;
+fn put_skipped(alloc: Global, object: &mut Members, tapped: Tapped) {
+    let mut both = Members::new(alloc);
+    both.object("a", &skipped_of(alloc, tapped.skipped_a));
+    both.object("b", &skipped_of(alloc, tapped.skipped_b));
+    object.object("skipped", &both);
     let read = tapped.units_a.bytes as u128 + tapped.units_b.bytes as u128;
     let skipped = tapped.skipped_a.bytes as u128 + tapped.skipped_b.bytes as u128;
-    match skipped > read {
-        true => put(object, "}, \"mostly_skipped\": true"),
-        false => put(object, "}, \"mostly_skipped\": false"),
-    }
+    object.flag("mostly_skipped", skipped > read);
 }
 
-fn put_side(
-    alloc: Global,
-    object: &mut Vec<u8>,
-    side: Side,
-    skipped: Skipped,
-) -> Result<(), AllocError> {
-    let Skipped { maintenance, bytes } = skipped;
-    let part = format!(in alloc;
-        "\"{side}\": {{\"maintenance\": {maintenance}, \"bytes\": {bytes}}}"
-    )?;
-    put(object, part.as_str())
+fn skipped_of(alloc: Global, skipped: Skipped) -> Members {
+    let mut of_side = Members::new(alloc);
+    of_side.number("maintenance", skipped.maintenance);
+    of_side.number("bytes", skipped.bytes);
+    of_side
 }

@@ -1,5 +1,5 @@
 -- Who is accused, and the refusal as the JSON object that comes first of all that is said of it.
-use Rattle.std.specs.Prelude.{◌≡◌, ℕ, ◌+◌, Bool, true, false, List, ◌++◌, codes}
+use Rattle.std.specs.Prelude.{◌≡◌, ℕ, ◌+◌, Bool, true, false, List, ◌++◌, Option, Some, None, codes}
 use Rattle.std.specs.Fmt.{decimal}
 use Rattle.wire_base.specs.Side.{side_letter}
 use Rattle.wire_base.specs.declared.side.Side.{Side}
@@ -16,11 +16,12 @@ use Rattle.pair_judge.specs.declared.reason_kind.Matter.{Matter}
 use Rattle.pair_judge.specs.declared.reason_kind.Matter.TheVariants as matter
 use Rattle.why.specs.declared.accusation.Accusation.{Accusation}
 use Rattle.why.specs.declared.accusation.Accusation.TheVariants.{Sender, OtherSender, Hints, Line, Claim, Nobody, User}
-use Rattle.why.specs.declared.accusation.Accusation.TheVariants.{Starter, Chooser, OtherEnd, Queue, DcWaited, Running}
+use Rattle.why.specs.declared.accusation.Accusation.TheVariants.{Starter, Chooser, OtherEnd, Queue, DcWaited, Running, OtherNode as NamesOther}
 use Rattle.why.specs.declared.accusation.Accusation.TheVariants.{SenderUnlessQueue, UserUnlessQueue, OtherEndUnlessQueue}
 use Rattle.why.specs.declared.accusation.Excuse.{Excuse}
 use Rattle.why.specs.declared.accusation.Excuse.TheVariants as excuse
 use Rattle.why.specs.declared.end_text.EndRefusal.{EndRefusal}
+use Rattle.why.specs.declared.other_node.OtherNode.{OtherNode}
 use Rattle.why.specs.declared.refused_line.RefusedLine.{RefusedLine}
 use Rattle.why.specs.declared.why_text.Refusal.{Refusal}
 
@@ -82,13 +83,23 @@ abbrev pub if_begun : (has_begun : Bool) → Accusation → Accusation
 if_begun true accusation = accusation
 if_begun false accusation = Running
 
--- Who is accused of a rule about this: nobody of one that asks for a state of the line, or for a link, which the recording has not told; and only of
--- one that a queue may explain it matters what is known of nodes with queues
-abbrev pub accused_by : Matter → (has_begun : Bool) → Excuse → Accusation → Accusation
-accused_by matter.LinkNow has_begun excuse accusation = if_begun has_begun (excused excuse accusation)
-accused_by matter.State has_begun excuse accusation = if_begun has_begun accusation
-accused_by matter.Station has_begun excuse accusation = if_begun has_begun accusation
-accused_by matter has_begun excuse accusation = accusation
+-- nobody, where the packet names another node: the line may lead to a router; but for heads that do not pair
+abbrev pub naming_other : OtherNode → Accusation → Accusation
+naming_other other OtherSender = OtherSender
+naming_other other accusation = NamesOther other
+
+abbrev pub naming : Option OtherNode → Accusation → Accusation
+naming None accusation = accusation
+naming (Some other) accusation = naming_other other accusation
+
+-- Who is accused of a rule about this: nobody of one that asks for a state of the line, or for a link, which the recording has not told; only of one
+-- that a queue may explain it matters what is known of nodes with queues; and only of addresses whether they are those of another node
+abbrev pub accused_by : Matter → (has_begun : Bool) → Excuse → Option OtherNode → Accusation → Accusation
+accused_by matter.LinkNow has_begun excuse other accusation = if_begun has_begun (excused excuse accusation)
+accused_by matter.State has_begun excuse other accusation = if_begun has_begun accusation
+accused_by matter.Station has_begun excuse other accusation = if_begun has_begun accusation
+accused_by matter.Nodes has_begun excuse other accusation = naming other accusation
+accused_by matter has_begun excuse other accusation = accusation
 
 abbrev pub accusation_name : Accusation → List ℕ
 accusation_name Sender = codes "sender"
@@ -107,6 +118,7 @@ accusation_name SenderUnlessQueue = codes "sender_without_queue"
 accusation_name UserUnlessQueue = codes "user_without_queue"
 accusation_name OtherEndUnlessQueue = codes "other_end_without_queue"
 accusation_name Running = codes "nobody"
+accusation_name (NamesOther other) = codes "nobody"
 
 -- `{"what": "refused", "side": "a", "record": 21, "line": 23`: record i is on line i + 2
 abbrev pub place_keys : Side → (place : ℕ) → List ℕ

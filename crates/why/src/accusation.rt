@@ -4,14 +4,10 @@ ghost use Rattle.std.specs.Prelude.{◌≡◌};
 ghost use Rattle.pair_judge.specs.Reason.{reason_matter};
 ghost use Rattle.why.specs.Refused as spec;
 
+use crate::other_node::OtherNode;
 use capture_record::Entry;
 use pair_judge::{Accused, Blame, Matter, Reason};
 use std::fmt;
-use wire_base::Side;
-
-// What comes before whoever is accused of a node without a queue: a row, and the beginning of the next one.
-const UNLESS_QUEUE: &str =
-    "accused  nobody, if this node has a queue between NSP and DDCMP;\n         else ";
 
 /// By whose fault a record is refused. Printed as one word, or as `other end`: of a sender `sender`, and `user` also where it may be the node. Where
 /// a queue would excuse it, `_without_queue` follows.
@@ -49,6 +45,8 @@ pub enum Accusation {
     OtherEndUnlessQueue,
     /// Neither side: the recording begins in the middle of a running line.
     Running,
+    /// Neither side: the packet names another node, so the line may lead to a router.
+    OtherNode(OtherNode),
 }
 
 /// What is known of nodes with a queue between NSP and DDCMP at a refused record.
@@ -103,9 +101,16 @@ impl Accusation {
     }
 
     /// Who is accused where the table of reasons says this: nobody, where the recording has not told yet (`has_begun`) in which state the side's line
-    /// was, or which links it had, and the rule asks for that; and where a queue may explain such a reason, whoever is left by what is known of that.
-    pub fn knowing(self, reason: Reason, has_begun: bool, excuse: Excuse) -> Accusation
-        ensures { result ≡ spec.accused_by (reason_matter reason) has_begun excuse self }
+    /// was, or which links it had, and the rule asks for that; where a queue may explain such a reason, whoever is left by what is known of that; and
+    /// nobody, where the packet names another node.
+    pub fn knowing(
+        self,
+        reason: Reason,
+        has_begun: bool,
+        excuse: Excuse,
+        other: Option<OtherNode>,
+    ) -> Accusation
+        ensures { result ≡ spec.accused_by (reason_matter reason) has_begun excuse other self }
     {
         match reason.matter() {
             Matter::LinkNow => self.excused(excuse).if_begun(has_begun),
@@ -118,7 +123,7 @@ impl Accusation {
             Matter::Hints => self,
             Matter::Passage => self,
             Matter::Packet => self,
-            Matter::Nodes => self,
+            Matter::Nodes => self.naming(other),
             Matter::Nsp => self,
         }
     }
@@ -188,87 +193,13 @@ impl fmt::Display for Accusation {
             Accusation::Claim => f.write_str("claim"),
             Accusation::Nobody | Accusation::Queue => f.write_str("nobody"),
             Accusation::DcWaited | Accusation::Running => f.write_str("nobody"),
+            Accusation::OtherNode(_) => f.write_str("nobody"),
             Accusation::User | Accusation::Starter | Accusation::Chooser => f.write_str("user"),
             Accusation::OtherEnd => f.write_str("other end"),
             Accusation::SenderUnlessQueue => f.write_str("sender_without_queue"),
             Accusation::UserUnlessQueue => f.write_str("user_without_queue"),
             Accusation::OtherEndUnlessQueue => f.write_str("other_end_without_queue"),
         }
-    }
-}
-
-/// The same in words, of a record of this side, with its LF; in two rows where a queue would excuse it.
-#[derive(Clone, Copy)]
-pub struct AccusedRow {
-    pub side: Side,
-    pub accusation: Accusation,
-}
-
-impl fmt::Display for AccusedRow {
-    fn fmt<W: fmt::Write>(&self, f: &mut fmt::Formatter<W>) -> fmt::Result {
-        let side = self.side;
-        let other = side.other();
-        match self.accusation {
-            Accusation::Sender => write!(f, "accused  the sender, {side}\n"),
-            Accusation::OtherSender => write!(
-                f,
-                "accused  the sender of what came, {other}, or heads that do not pair\n"
-            ),
-            Accusation::Hints => {
-                f.write_str("accused  the hints, or captures that do not pair\n")
-            }
-            Accusation::Line => f.write_str("accused  the line, or captures that do not pair\n"),
-            Accusation::Claim => write!(
-                f,
-                "accused  {side} (its node or its recorder); {other} is not to blame\n"
-            ),
-            Accusation::Nobody => {
-                f.write_str("accused  nobody: the protocol cannot tell the two apart\n")
-            }
-            Accusation::User => write!(f, "accused  the user of {side}\n"),
-            Accusation::Starter => write!(
-                f,
-                "accused  the user of {side}, or the node if it started by itself\n"
-            ),
-            Accusation::Chooser => write!(
-                f,
-                "accused  the user of {side}, or the node if it chose the address\n"
-            ),
-            Accusation::OtherEnd => f.write_str("accused  the other end\n"),
-            Accusation::Queue => f.write_str(
-                "accused  nobody: a node with a queue between NSP and DDCMP does this\n",
-            ),
-            Accusation::DcWaited => f.write_str(
-                "accused  nobody: a DC that waited in a queue may have ended this call\n",
-            ),
-            Accusation::SenderUnlessQueue => { write!(f, "{UNLESS_QUEUE}the sender, {side}\n") }
-            Accusation::UserUnlessQueue => write!(f, "{UNLESS_QUEUE}the user of {side}\n"),
-            Accusation::OtherEndUnlessQueue => write!(f, "{UNLESS_QUEUE}the other end\n"),
-            Accusation::Running => write!(
-                f,
-                "accused  nobody: {side}'s recording begins in the middle of a running line\n"
-            ),
-        }
-    }
-}
-
-/// That the recording begins in the middle of a running line, or that a DC may have waited in a queue, as a JSON object with its LF; nothing where
-/// neither is why nobody is accused.
-#[derive(Clone, Copy)]
-pub struct NobodyObject {
-    pub side: Side,
-    pub accusation: Accusation,
-}
-
-impl fmt::Display for NobodyObject {
-    fn fmt<W: fmt::Write>(&self, f: &mut fmt::Formatter<W>) -> fmt::Result {
-        let what = match self.accusation {
-            Accusation::Running => "begins_running",
-            Accusation::DcWaited => "dc_waited",
-            _ => return Ok(()),
-        };
-        let side = self.side;
-        write!(f, "{{\"what\": \"{what}\", \"side\": \"{side}\"}}\n")
     }
 }
 

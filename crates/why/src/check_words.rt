@@ -2,6 +2,7 @@
 
 use crate::checks::Check;
 use crate::digits::Fronts;
+use crate::unmarked_word::write_unmarked_word;
 use pair_judge::{Awaited, FailedCheck};
 use record_words::lines::Lines;
 use record_words::nsp_words::nsp_fault_words;
@@ -41,13 +42,16 @@ impl fmt::Display for Seen<'_, '_> {
                 write!(f, "{}", ReadingName { reading })?;
                 write_byte(f, came_byte(self.check.fronts.differs))
             }
-            FailedCheck::StationSending(failed) => write_sending_seen(f, failed, reading),
+            FailedCheck::StationSending(failed) => {
+                write_sending_seen(f, failed, reading, self.check.lines)
+            }
             FailedCheck::StationArrival(failed) => write_arrival_seen(f, side, failed, reading),
             FailedCheck::StationEvent { seen } => write!(f, "start in {}", state_name(seen)),
             FailedCheck::Packet(fault) => f.write_str(packet_fault_words(fault)),
             FailedCheck::Nsp(fault) => f.write_str(nsp_fault_words(fault)),
             FailedCheck::LinkSending(failed) => {
-                write_link_sending_seen(f, failed, front, self.check.lines)
+                write_link_sending_seen(f, failed, front, self.check.lines)?;
+                write_unmarked_word(f, failed, bytes)
             }
             FailedCheck::LinkArrival(failed) => write_link_arrival_seen(f, side, failed),
             FailedCheck::LinkEvent(failed) => {
@@ -95,7 +99,7 @@ impl fmt::Display for Allowed<'_, '_> {
         let other = side.other();
         let front = self.check.fronts.due;
         match self.check.failed {
-            FailedCheck::Message(_) => f.write_str("a sound message of DDCMP"),
+            FailedCheck::Message(_) => f.write_str("a valid DDCMP message"),
             FailedCheck::HintOrder { lowest, .. } => write!(f, "hint {lowest} or a higher one"),
             FailedCheck::NoSuchUnit(own) => write_below(f, other, own.sent),
             FailedCheck::NoOrder { own, .. } => write_below(f, other, own.sent),

@@ -5,9 +5,17 @@ use record_words::words::NumberOr;
 use record_words::wrapped::{INDENT, put_wrapped};
 use std::alloc::AllocError;
 use std::fmt::{self, Formatter, Write};
+use wire_base::Side;
 
 /// With fewer records than this after the refusal, small edits tell nothing: most of them make the pair a run.
 pub const FEW_RECORDS: u64 = 20;
+
+/// Where a small edit is: in which line of this side's capture, counted from 1.
+#[derive(Clone, Copy, PartialEq, Eq)]
+pub struct EditPlace {
+    pub side: Side,
+    pub line: u64,
+}
 
 /// How many small edits near the refusal were judged, and how many of them make the pair a run. Printed as one JSON object with its LF.
 #[derive(Clone, Copy, PartialEq, Eq)]
@@ -16,6 +24,10 @@ pub struct EditsTried {
     pub tried: u64,
     /// How many of them make the pair a run.
     pub accepted: u64,
+    /// How many more were not judged, since the captures are large.
+    pub left: u64,
+    /// Where the nearest of these is; `None` where there is none.
+    pub left_from: Option<EditPlace>,
     /// How many records of both captures follow the refused one: those that are not made, without it. `None` where a capture can't be
     /// read again, so that nobody knows.
     pub records_behind: Option<u64>,
@@ -26,16 +38,37 @@ impl fmt::Display for EditsTried {
         let EditsTried {
             tried,
             accepted,
+            left,
+            left_from,
             records_behind,
         } = *self;
+        let from = LeftFromKey { left_from };
         let behind = NumberOr {
             word: "null",
             number: records_behind,
         };
         write!(
             f,
-            "{{\"what\": \"edits\", \"tried\": {tried}, \"accepted\": {accepted}, \"records_behind\": {behind}}}\n"
+            "{{\"what\": \"edits\", \"tried\": {tried}, \"accepted\": {accepted}, \"left\": {left}{from}, \"records_behind\": {behind}}}\n"
         )
+    }
+}
+
+// Where the edits that were not judged begin, as an object of its own.
+#[derive(Clone, Copy)]
+struct LeftFromKey {
+    left_from: Option<EditPlace>,
+}
+
+impl fmt::Display for LeftFromKey {
+    fn fmt<W: Write>(&self, f: &mut Formatter<W>) -> fmt::Result {
+        match self.left_from {
+            Some(EditPlace { side, line }) => write!(
+                f,
+                ", \"left_from\": {{\"side\": \"{side}\", \"line\": {line}}}"
+            ),
+            None => Ok(()),
+        }
     }
 }
 
@@ -50,6 +83,8 @@ impl fmt::Display for RecorderRow {
         let EditsTried {
             tried,
             accepted,
+            left,
+            left_from,
             records_behind,
         } = self.edits;
         let Some(records) = records_behind else {
@@ -60,13 +95,22 @@ impl fmt::Display for RecorderRow {
         if records < FEW_RECORDS {
             return write_too_few(f, records);
         }
-        write_tried(f, tried, accepted, records)
+        let follow = FollowWords {
+            records,
+            left,
+            left_from,
+        };
+        write_tried(f, tried, accepted, follow)
     }
 }
 
 // Writes that too few records follow for small edits to tell something.
 fn write_too_few<W: Write>(f: &mut Formatter<W>, records: u64) -> fmt::Result {
-    let follow = FollowWords { records };
+    let follow = FollowWords {
+        records,
+        left: 0,
+        left_from: None,
+    };
     write!(
         f,
         "recorder small edits were not tried: only {follow} ({FEW_RECORDS} are needed)\n"
@@ -78,9 +122,8 @@ fn write_tried<W: Write>(
     f: &mut Formatter<W>,
     tried: u64,
     accepted: u64,
-    records: u64,
+    follow: FollowWords,
 ) -> fmt::Result {
-    let follow = FollowWords { records };
     if tried == 0 {
         return write!(
             f,
@@ -99,19 +142,32 @@ fn write_tried<W: Write>(
     )
 }
 
-// How many records follow.
+// How many records follow, and how many edits were left out since the captures are large, and from where on.
 #[derive(Clone, Copy)]
 struct FollowWords {
     records: u64,
+    left: u64,
+    left_from: Option<EditPlace>,
 }
 
 impl fmt::Display for FollowWords {
     fn fmt<W: Write>(&self, f: &mut Formatter<W>) -> fmt::Result {
-        let records = self.records;
-        if records == 1 {
-            return f.write_str("1 record follows");
+        let FollowWords {
+            records,
+            left,
+            left_from,
+        } = *self;
+        match records {
+            1 => f.write_str("1 record follows")?,
+            _ => write!(f, "{records} records follow")?,
         }
-        write!(f, "{records} records follow")
+        match left_from {
+            Some(EditPlace { side, line }) => write!(
+                f,
+                "; {left} more, from line {line} of {side} on,\n          were not tried, as the files are large"
+            ),
+            None => Ok(()),
+        }
     }
 }
 

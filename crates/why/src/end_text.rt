@@ -4,8 +4,10 @@ ghost use Rattle.std.specs.Prelude.{◌≡◌, IfOk, string_bytes};
 ghost use Rattle.why.specs.inner.EndAlone as spec;
 ghost use Rattle.why.specs.Refused.{BeginsWith, line_of_end, refused_line};
 
-use crate::accusation::{Accusation, AccusedRow, NobodyObject};
+use crate::accusation::Accusation;
+use crate::accused_row::AccusedRow;
 use crate::ends::state_at;
+use crate::nobody::NobodyObject;
 use crate::queued::{QueuedAnswer, QueuedObject, QueuedRow, Whole};
 use crate::refused_line::RefusedLine;
 use crate::refused_record::{Beside, RefusedRecord, end_told, record_objects, record_rows};
@@ -83,7 +85,11 @@ pub fn why_end_rows(
     let named = addresses_of(refusal.says, refusal.bytes);
     let told = end_told(alloc, Form::Rows, state_alone(end), named, end)?;
     let accused = AccusedRow {
+        whole: Whole::End,
         side: Side::A,
+        line: refusal.place.saturating_add(2),
+        reason: refusal.reason,
+        says: refusal.says,
         accusation: refusal.accusation,
     };
     let queued = QueuedRow {

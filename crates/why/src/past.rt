@@ -1,10 +1,14 @@
 //! In which lines of a capture the links of a side got their addresses, and in which they ended.
 
 use crate::accusation::Excuse;
+use crate::inits::Inits;
+use crate::other_node::OtherNode;
+use beyond::other_in;
 use capture_record::Entry;
+use ddcmp_msg::read_unit;
 use dna_packet::{Nsp, read_nsp};
-use pair_judge::Reason;
-use record_words::layers::{message_in, message_in_unit};
+use pair_judge::{Reason, SideEnd};
+use record_words::layers::{message_in, message_in_unit, packet_in};
 use record_words::lines::Lines;
 use record_words::side_past::SidePast;
 use side_words::subject::Addresses;
@@ -16,6 +20,7 @@ use wire_base::Side;
 pub struct LinkPast {
     a: SidePast,
     b: SidePast,
+    inits: Inits,
 }
 
 impl LinkPast {
@@ -24,11 +29,13 @@ impl LinkPast {
         LinkPast {
             a: SidePast::new(alloc),
             b: SidePast::new(alloc),
+            inits: Inits::NONE,
         }
     }
 
     /// This side made the record of this entry and these bytes, its next one. `AllocError`: there is no memory for an address.
     pub fn note(&mut self, side: Side, entry: Entry, bytes: &[u8]) -> Result<(), AllocError> {
+        self.inits.note(side, entry, bytes);
         match side {
             Side::A => self.a.made(entry, bytes),
             Side::B => self.b.made(entry, bytes),
@@ -64,6 +71,31 @@ impl LinkPast {
             true => Excuse::DcWaited,
             false => excuse,
         }
+    }
+
+    /// The node besides the two of the line that a record of this end, of this entry and these bytes, names, where it is refused for its addresses;
+    /// with what both nodes say that they are.
+    pub fn other_node(
+        &self,
+        reason: Reason,
+        entry: Entry,
+        bytes: &[u8],
+        end: &SideEnd,
+    ) -> Option<OtherNode> {
+        if reason != Reason::WrongNode {
+            return None;
+        }
+        let packet = match entry {
+            Entry::Composed => bytes,
+            Entry::Sent | Entry::Received { .. } => packet_in(read_unit(bytes))?,
+            _ => return None,
+        };
+        let nodes = end.incoming();
+        Some(OtherNode {
+            node: other_in(nodes.destination, nodes.source, packet)?,
+            kind_a: self.inits.a,
+            kind_b: self.inits.b,
+        })
     }
 
     /// The lines of the link with these addresses at this side, as they are after the records that were made.

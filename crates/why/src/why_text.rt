@@ -3,9 +3,11 @@
 ghost use Rattle.std.specs.Prelude.{◌≡◌, IfOk, string_bytes};
 ghost use Rattle.why.specs.Refused.{BeginsWith, line_of, refused_line};
 
-use crate::accusation::{Accusation, AccusedRow, NobodyObject};
+use crate::accusation::Accusation;
+use crate::accused_row::AccusedRow;
 use crate::edits::{EditsTried, RecorderRow, so_row};
 use crate::ends::state_at;
+use crate::nobody::NobodyObject;
 use crate::queued::{QueuedAnswer, QueuedObject, QueuedRow, Whole};
 use crate::refused_line::RefusedLine;
 use crate::refused_record::{Beside, RefusedRecord, end_told, record_objects, record_rows};
@@ -134,7 +136,11 @@ pub fn why_rows(
     let own = side_told(alloc, Form::Rows, side, named, ends)?;
     let other = side_told(alloc, Form::Rows, side.other(), named.turned(), ends)?;
     let accused = AccusedRow {
+        whole: Whole::Pair,
         side,
+        line: refusal.place.saturating_add(2),
+        reason: refusal.reason,
+        says: refusal.says,
         accusation: refusal.accusation,
     };
     let recorder = recorder_rows(alloc, shown)?;

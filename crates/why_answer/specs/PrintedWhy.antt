@@ -18,6 +18,7 @@ use Rattle.pair_judge.specs.declared.verdict.Verdict.{Verdict}
 use Rattle.pair_judge.specs.declared.verdict.Verdict.TheVariants.{Accepted, Refused as IsRefused}
 use Rattle.why.specs.declared.accusation.Accusation.{Accusation}
 use Rattle.why.specs.declared.accusation.Excuse.{Excuse}
+use Rattle.why.specs.declared.other_node.OtherNode.{OtherNode}
 use Rattle.why.specs.declared.why_text.Refusal.{Refusal}
 use Rattle.why.specs.Refused.{BeginsWith, accused_by, accuses, line_of, refused_line}
 use Rattle.pair_judge.specs.JudgedAs.{StandsOver, nodes_of, queues_of}
@@ -28,12 +29,13 @@ use Rattle.printing.specs.declared.how.Form.{Form}
 use Rattle.printing.specs.declared.how.Form.TheVariants.{Rows, Json}
 use Rattle.why_answer.specs.declared.telling.Refused.{Refused}
 
--- who is accused is what the table says of the reason, but for what is known of the state of the line and of nodes with queues, of which no more is
--- claimed
+-- who is accused is what the table says of the reason, but for what is known of the state of the line, of nodes with queues, and of another node that
+-- a packet names, of which no more is claimed
 pub record IsAccused (reason : Reason) (by_table : Accusation) (accusation : Accusation) : Type 0 where
   pub has_begun : Bool
   pub excuse : Excuse
-  pub is : accusation ≡ accused_by (reason_matter reason) has_begun excuse by_table
+  pub other : Option OtherNode
+  pub is : accusation ≡ accused_by (reason_matter reason) has_begun excuse other by_table
 
 -- what is told of a refusal is told of the record ahead of its side; the check that is named is the first of the verdict's reason that fails
 pub record IsTold (layers : Layers) (ends : ShownEnds) (refused : Refused) (told : Refusal) : Type 0 where

@@ -3,6 +3,7 @@
 use crate::due::{damage_of, due_near};
 use crate::judged_again::PairChanges;
 use crate::near::{Near, near_of, what_is_asked};
+use crate::trying::{Places, most_bytes, put_nearest_first};
 use crate::unit_changes::unit_changes;
 use capture::CaptureFault;
 use edited::{Edit, Refused, candidates};
@@ -30,11 +31,12 @@ pub enum NothingNear {
     OutOfMemory,
 }
 
-/// What is tried: edits of a recorder's mistakes, and changes of the refused unit.
+/// What is tried: edits of a recorder's mistakes, and changes of the refused unit; no edit once so many bytes were read.
 #[derive(Drop)]
 pub struct ToTry {
     pub edits: Vec<Edit>,
     pub units: Vec<PairChanges>,
+    pub limit: u64,
 }
 
 impl BothNear {
@@ -53,17 +55,34 @@ impl BothNear {
         left_a.saturating_add(left_b).saturating_sub(1)
     }
 
-    /// What is worth a try where a record of this side is refused. `AllocError` where there is no memory for it.
+    /// What is worth a try where a record of this side is refused, of captures that have so many bytes. `AllocError` where there is no memory for it.
     pub fn to_try(
         &self,
         alloc: Global,
         layers: Layers,
         ends: &JudgedEnds,
         side: Side,
+        bytes: u64,
     ) -> Result<ToTry, AllocError> {
-        let edits = self.edits(alloc, ends, side)?;
+        let mut edits = self.edits(alloc, ends, side)?;
+        let limit = most_bytes(self.a.records.saturating_add(self.b.records), bytes);
+        if bytes.saturating_mul(edits.len() as u64) > limit {
+            put_nearest_first(&mut edits, self.places())?;
+        }
         let units = unit_changes(alloc, layers, ends, side, self)?;
-        Ok(ToTry { edits, units })
+        Ok(ToTry {
+            edits,
+            units,
+            limit,
+        })
+    }
+
+    // The lines to which both sides come next.
+    fn places(&self) -> Places {
+        Places {
+            a: self.a.stretch.line,
+            b: self.b.stretch.line,
+        }
     }
 
     fn edits(&self, alloc: Global, ends: &JudgedEnds, side: Side) -> Result<Vec<Edit>, AllocError> {

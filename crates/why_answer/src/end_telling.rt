@@ -185,11 +185,12 @@ fn refusal_of<'t>(
     let of_queue = queued.excuse(Side::A, place).of_end();
     let excuse = past.excuse(Side::A, reason, entry, bytes, of_queue);
     let has_begun = past.has_begun(Side::A, reason);
+    let other = past.other_node(reason, entry, bytes, end);
     let by_table = Accusation::of_end(accused, reason, entry);
     Some(EndRefusal {
         place,
         reason,
-        accusation: accusation_knowing(by_table, reason, has_begun, excuse),
+        accusation: accusation_knowing(by_table, reason, has_begun, excuse, other),
         failed: end.failed_alone(layers, reason),
         says: entry,
         bytes,

@@ -80,3 +80,11 @@ pub fn judge_edited<A: Read, B: Read>(
         &mut Tally::new(edited_b),
     )
 }
+
+/// How far a file was read; 0 where it does not say.
+pub fn bytes_read<R: Seek>(file: &mut R) -> u64 {
+    match file.stream_position() {
+        Ok(at) => at,
+        Err(_) => 0,
+    }
+}

@@ -13,4 +13,5 @@ pub mod recorder;
 mod right_units;
 mod rows_before;
 pub mod telling;
+mod trying;
 mod unit_changes;

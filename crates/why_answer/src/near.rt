@@ -275,6 +275,6 @@ fn form_behind(form: HintForm, hint: u64) -> HintForm {
         HintForm::Distance { .. } => HintForm::Distance {
             mark: hint.saturating_add(1),
         },
-        HintForm::Number | HintForm::Wide => form,
+        HintForm::Number | HintForm::Wide | HintForm::Part => form,
     }
 }

@@ -1,22 +1,19 @@
 //! What small edits near a refused record tell: whether rather the recording is wrong than a node. That is told only where no single fault of the
 //! node explains the record as well.
 
-use crate::both_near::{BothNear, NothingNear, ToTry, near_both};
-use crate::judged_again::{PairChanges, is_run_again};
+use crate::both_near::{BothNear, NothingNear, near_both};
+use crate::judged_again::bytes_read;
 use crate::queued_too::unasked;
-use crate::unit_changes::is_sent_at_another_time;
-use edited::{Edit, MistakeOf};
+use crate::trying::try_all;
+use edited::MistakeOf;
 use pair_judge::{JudgeFault, JudgedEnds};
 use printing::how::Form;
 use printing::layers::Layers;
 use std::alloc::{AllocError, Global};
 use std::fmt::Write as _;
 use std::io::{Read, Seek};
-use why::{AlsoAsked, EditLine, EditsTried, FEW_RECORDS, QueuedAnswer, put_edit};
+use why::{AlsoAsked, EditLine, EditPlace, EditsTried, FEW_RECORDS, QueuedAnswer, put_edit};
 use wire_base::Side;
-
-/// How many bytes of both captures are read at most while edits are judged: about two seconds' work.
-const MOST_BYTES: u64 = 500_000_000;
 
 /// How many edits are named at most of those that make the pair a run.
 const NAMED: u64 = 4;
@@ -69,6 +66,8 @@ impl Tried {
             counts: EditsTried {
                 tried: 0,
                 accepted: 0,
+                left: 0,
+                left_from: None,
                 records_behind,
             },
             unit_as_well: false,
@@ -129,8 +128,17 @@ impl Tried {
         }
     }
 
-    // One that makes the pair a run.
-    fn add(&mut self, alloc: Global, mistake: MistakeOf) -> Result<(), AllocError> {
+    /// So many are not judged, of which this one comes first.
+    pub fn leave(&mut self, left: u64, first: MistakeOf) {
+        self.counts.left = left;
+        self.counts.left_from = Some(EditPlace {
+            side: first.side,
+            line: first.mistake.line(),
+        });
+    }
+
+    /// One that makes the pair a run.
+    pub fn add(&mut self, alloc: Global, mistake: MistakeOf) -> Result<(), AllocError> {
         self.counts.accepted = self.counts.accepted.saturating_add(1);
         if self.counts.accepted > NAMED {
             return Ok(());
@@ -144,10 +152,10 @@ impl Tried {
     }
 }
 
-/// Judges the pair again, over these layers, under small edits of a recorder's mistakes near the refused record of this side, the likeliest first:
-/// at most 64, and none is begun once 500,000,000 bytes were read. Where one makes it a run, it is judged with one field of the refused unit changed
-/// too. Nothing is tried where a file can't be read again from its beginning, nor where fewer than [`FEW_RECORDS`] records come after the refused
-/// one; and nothing more once a read failed. `AllocError` where there is no memory for an edit.
+/// Judges the pair again, over these layers, under small edits of a recorder's mistakes near the refused record of this side, at most 96: the
+/// likeliest first, or the nearest where the captures are so large that not all of them are judged ([`crate::trying`]). Where one makes it a run, it
+/// is judged with one field of the refused unit changed too. Nothing is tried where a file can't be read again from its beginning, nor where fewer
+/// than [`FEW_RECORDS`] records come after the refused one; and nothing more once a read failed. `AllocError` where there is no memory for an edit.
 pub fn try_edits<A: Read + Seek, B: Read + Seek>(
     alloc: Global,
     layers: Layers,
@@ -174,7 +182,8 @@ fn try_near<A: Read + Seek, B: Read + Seek>(
     side: Side,
     near: BothNear,
 ) -> Result<Tried, AllocError> {
-    let to_try = near.to_try(alloc, layers, ends, side)?;
+    let size = bytes_read(a).saturating_add(bytes_read(b));
+    let to_try = near.to_try(alloc, layers, ends, side, size)?;
     let records = near.records_behind(ends);
     let mut tried = Tried::of_near(alloc, records, near);
     if records >= FEW_RECORDS {
@@ -183,102 +192,10 @@ fn try_near<A: Read + Seek, B: Read + Seek>(
     Ok(tried)
 }
 
-fn try_all<A: Read + Seek, B: Read + Seek>(
-    alloc: Global,
-    layers: Layers,
-    a: &mut A,
-    b: &mut B,
-    ends: &JudgedEnds,
-    to_try: ToTry,
-    tried: &mut Tried,
-) -> Result<(), AllocError> {
-    let ToTry { edits, units } = to_try;
-    try_each(alloc, layers, a, b, ends, edits, tried)?;
-    if tried.failed.is_none() && tried.counts.accepted > 0 && !tried.unit_as_well {
-        return try_units(alloc, layers, a, b, units, tried);
-    }
-    Ok(())
-}
-
-// Whether the pair is a run under one of these changes of a unit. Where a file can't be read again, nobody knows, and it may be.
-fn try_units<A: Read + Seek, B: Read + Seek>(
-    alloc: Global,
-    layers: Layers,
-    a: &mut A,
-    b: &mut B,
-    units: Vec<PairChanges>,
-    tried: &mut Tried,
-) -> Result<(), AllocError> {
-    for changes in units {
-        let is_run = is_run_again(alloc, layers, a, b, changes);
-        if let Ok(Some(false)) = is_run {
-            continue;
-        }
-        tried.unit_as_well = true;
-        return match is_run {
-            Ok(_) => Ok(()),
-            Err(fault) => tried.stop(fault),
-        };
-    }
-    Ok(())
-}
-
 /// No more is tried, since a read failed; or there is no memory.
 pub fn stopped(mut tried: Tried, fault: JudgeFault) -> Result<Tried, AllocError> {
     tried.stop(fault)?;
     Ok(tried)
-}
-
-// Judges the pair under one edit after another.
-fn try_each<A: Read + Seek, B: Read + Seek>(
-    alloc: Global,
-    layers: Layers,
-    a: &mut A,
-    b: &mut B,
-    ends: &JudgedEnds,
-    edits: Vec<Edit>,
-    tried: &mut Tried,
-) -> Result<(), AllocError> {
-    let mut read = 0u64;
-    for edit in edits {
-        if read >= MOST_BYTES || !try_edit(alloc, layers, a, b, ends, edit, tried)? {
-            break;
-        }
-        read = read
-            .saturating_add(bytes_read(a))
-            .saturating_add(bytes_read(b));
-    }
-    Ok(())
-}
-
-// Judges the pair under this edit; whether others may be tried.
-fn try_edit<A: Read + Seek, B: Read + Seek>(
-    alloc: Global,
-    layers: Layers,
-    a: &mut A,
-    b: &mut B,
-    ends: &JudgedEnds,
-    edit: Edit,
-    tried: &mut Tried,
-) -> Result<bool, AllocError> {
-    let Edit { of, changes } = edit;
-    let changes = PairChanges::of(of.side, changes, Vec::new(alloc));
-    match is_run_again(alloc, layers, a, b, changes) {
-        Ok(Some(is_run)) => {
-            tried.counts.tried = tried.counts.tried.saturating_add(1);
-            if is_run {
-                let moves = is_sent_at_another_time(ends, of.mistake);
-                tried.unit_as_well = tried.unit_as_well || moves;
-                tried.add(alloc, of)?;
-            }
-            Ok(true)
-        }
-        Ok(None) => Ok(false),
-        Err(fault) => {
-            tried.stop(fault)?;
-            Ok(false)
-        }
-    }
 }
 
 fn nothing_later(alloc: Global) -> ComesLater {
@@ -286,13 +203,5 @@ fn nothing_later(alloc: Global) -> ComesLater {
         hints_a: Vec::new(alloc),
         hints_b: Vec::new(alloc),
         is_all: false,
-    }
-}
-
-// How far a file was read.
-fn bytes_read<R: Seek>(file: &mut R) -> u64 {
-    match file.stream_position() {
-        Ok(at) => at,
-        Err(_) => 0,
     }
 }

@@ -11,7 +11,7 @@ use crate::recorder::Tried;
 use crate::rows_before::{rungs_of, tell_later};
 use capture_record::Entry;
 use ladder::Ladder;
-use pair_judge::{JudgedEnds, Reason, Summary, Verdict, Watched};
+use pair_judge::{JudgedEnds, Reason, SideEnd, Summary, Verdict, Watched};
 use printing::check::{print, print_failed_read, print_out_of_memory};
 use printing::how::Form;
 use printing::layers::Layers;
@@ -20,7 +20,9 @@ use record_words::lines::Lines;
 use side_words::subject::addresses_of;
 use std::alloc::{AllocError, Global};
 use std::io::Write;
-use why::{Accusation, Excuse, LinkPast, QueuedAnswer, Refusal, Shown, why_json, why_rows};
+use why::{
+    Accusation, Excuse, LinkPast, OtherNode, QueuedAnswer, Refusal, Shown, why_json, why_rows,
+};
 use wire_base::{Side, Tally, write_whole};
 
 /// The status of a refusal.
@@ -53,7 +55,8 @@ pub fn print_accepted<O: Write, E: Write>(
     out: &mut Tally<O>,
     err: &mut Tally<E>,
 ) -> u8
-    ensures { PrintsAcceptance printout.entry.layers printout.entry.form (moved O.contents out.old out.new, moved E.contents err.old err.new) summary result }
+    ensures { PrintsAcceptance printout.entry.layers printout.entry.form (moved O.contents out.old out.new, moved E.contents err.old err.new) summary
+        result }
 {
     match printout.form {
         Form::Json => print(out, b"{\"what\": \"accepted\"}\n", 0),
@@ -145,12 +148,13 @@ fn refusal_of<'t>(
         return None;
     };
     let named = addresses_of(entry, bytes);
+    let end = ends.end(refused.side);
     let other_at = ends.end(refused.side.other()).records().saturating_add(2);
     Some(Refusal {
         side: refused.side,
         place: refused.place,
         reason: refused.reason,
-        accusation: accusation_of(refused, entry, bytes, tried.queued, past),
+        accusation: accusation_of(refused, entry, bytes, tried.queued, past, end),
         failed,
         says: entry,
         bytes,
@@ -162,13 +166,14 @@ fn refusal_of<'t>(
     })
 }
 
-// Who is accused, by what is known of nodes with queues and of the side's line.
+// Who is accused, by what is known of nodes with queues and of the side's line, at this end.
 fn accusation_of(
     refused: Refused,
     entry: Entry,
     bytes: &[u8],
     queued: QueuedAnswer,
     past: &LinkPast,
+    end: &SideEnd,
 ) -> Accusation
     ensures { IsAccused refused.reason (accuses refused.reason entry) result }
 {
@@ -179,19 +184,27 @@ fn accusation_of(
     } = refused;
     let excuse = past.excuse(side, reason, entry, bytes, queued.excuse(side, place));
     let has_begun = past.has_begun(side, reason);
-    accusation_knowing(Accusation::of(reason, entry), reason, has_begun, excuse)
+    let other = past.other_node(reason, entry, bytes, end);
+    accusation_knowing(
+        Accusation::of(reason, entry),
+        reason,
+        has_begun,
+        excuse,
+        other,
+    )
 }
 
-/// Who is accused for this reason, where the table says this, and that is known of the side's line and of nodes with queues.
+/// Who is accused for this reason, where the table says this, and that is known of the side's line, of nodes with queues, and of other nodes.
 pub fn accusation_knowing(
     by_table: Accusation,
     reason: Reason,
     has_begun: bool,
     excuse: Excuse,
+    other: Option<OtherNode>,
 ) -> Accusation
     ensures { IsAccused reason by_table result }
 {
-    by_table.knowing(reason, has_begun, excuse)
+    by_table.knowing(reason, has_begun, excuse, other)
 }
 
 // The unit that the refused record names.

@@ -1,6 +1,5 @@
 //! `why --all`: each refusal of a pair, or of one end, with what is said of it.
 
-use crate::why_pair::let_go;
 use all_answer::all_end::{EndCapture, end_answer_of};
 use all_answer::all_judged::{Captures, print_all};
 use all_answer::all_pair::{PairCaptures, Telling};
@@ -8,7 +7,7 @@ use all_answer::all_pair_told::answer_of;
 use all_answer::all_stops::OfLine;
 use all_answer::all_told::{AllTold, Answer};
 use capture::CaptureFault;
-use pair_judge::{EndVerdict, JudgedEnds, Verdict, WatchedEnd, judge, judge_end};
+use pair_judge::{EndVerdict, JudgedEnds, Verdict, judge, judge_end};
 use printing::alone::print_end_fault;
 use printing::check::{print_failed_read, print_fault, print_out_of_memory};
 use printing::how::Form;
@@ -49,7 +48,7 @@ pub fn why_all_to<A: Read + Seek, B: Read + Seek, O: Write, E: Write>(
     let verdict = watched.ends.verdict();
     let refused = match verdict {
         Verdict::Accepted(summary) => {
-            let_go(watched);
+            watched.let_go();
             return print_accepted(alloc, printout, summary, out, err);
         }
         Verdict::Refused {
@@ -63,7 +62,7 @@ pub fn why_all_to<A: Read + Seek, B: Read + Seek, O: Write, E: Write>(
         },
     };
     let Ok(tried) = ask_again(alloc, printout, a, b, &watched.ends, refused) else {
-        let_go(watched);
+        watched.let_go();
         return print_out_of_memory(err);
     };
     let failed = tried.failed;
@@ -117,7 +116,7 @@ pub fn why_all_end_to<A: Read + Seek, O: Write, E: Write>(
     let verdict = watched.verdict;
     let reason = match verdict {
         EndVerdict::Passed(counts) => {
-            let_end_go(watched);
+            watched.let_go();
             return print_passed(alloc, printout, counts, out, err);
         }
         EndVerdict::Refused { reason, .. } => reason,
@@ -125,7 +124,7 @@ pub fn why_all_end_to<A: Read + Seek, O: Write, E: Write>(
     let queued = match end_with_queues(alloc, printout.layers, a, reason) {
         Ok(queued) => queued,
         Err(fault) => {
-            let_end_go(watched);
+            watched.let_go();
             return print_not_known(fault, err);
         }
     };
@@ -141,9 +140,6 @@ pub fn why_all_end_to<A: Read + Seek, O: Write, E: Write>(
     let first = end_answer_of(verdict, text.into_bytes());
     print_explained(alloc, printout.form, &mut captures, first, out, err)
 }
-
-// Drops what was judged of one end, likewise.
-fn let_end_go(_watched: WatchedEnd<LastRows>) {}
 
 // Prints why it is not known what is answered of a node with queues.
 fn print_not_known<E: Write>(fault: CaptureFault, err: &mut Tally<E>) -> u8 {

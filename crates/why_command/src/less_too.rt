@@ -219,7 +219,8 @@ fn refused_object(alloc: Global, less: Less, refusal: Refusal) -> Result<String,
         false => "",
     };
     format!(in alloc;
-        "{{\"what\": \"{}\", \"answer\": \"refused\", \"side\": \"{side}\", \"record\": {place}, \"line\": {line}, \"number\": {number}, \"name\": \"{reason}\"{accuses}}}\n",
+        "{{\"what\": \"{}\", \"answer\": \"refused\", \"side\": \"{side}\", \"record\": {place}, \"line\": {line}, \"number\": {number}, \
+         \"name\": \"{reason}\"{accuses}}}\n",
         less.key()
     )
 }

@@ -1,5 +1,5 @@
-//! `why` with all that it asks again: nodes with queues, the line alone, what is left without a link, and all that refuses; and what is said of a text
-//! that departs from its format.
+//! `why` with all that it asks again: nodes with queues, the line alone, what is left without a link, and all that refuses; and what is said of a
+//! text that departs from its format.
 #![tactic(auto)]
 
 pub mod all_why;

@@ -4,7 +4,7 @@ ghost use Rattle.printing.specs.Printed.{moved};
 ghost use Rattle.why_answer.specs.PrintedWhy.{Explains};
 
 use crate::less_too::with_less_too;
-use pair_judge::{JudgedEnds, Verdict, Watched, judge};
+use pair_judge::{JudgedEnds, Verdict, judge};
 use printing::check::{print_fault, print_out_of_memory};
 use std::alloc::{AllocError, Global};
 use std::io::{Read, Seek, Write};
@@ -42,7 +42,7 @@ pub fn why_to<A: Read + Seek, B: Read + Seek, O: Write, E: Write>(
     };
     match watched.ends.verdict() {
         Verdict::Accepted(summary) => {
-            let_go(watched);
+            watched.let_go();
             print_accepted(alloc, printout, summary, out, err)
         }
         Verdict::Refused {
@@ -58,7 +58,7 @@ pub fn why_to<A: Read + Seek, B: Read + Seek, O: Write, E: Write>(
             let tried = match ask_again(alloc, printout, a, b, &watched.ends, refused) {
                 Ok(tried) => tried,
                 Err(_) => {
-                    let_go(watched);
+                    watched.let_go();
                     return print_out_of_memory(err);
                 }
             };
@@ -70,10 +70,6 @@ pub fn why_to<A: Read + Seek, B: Read + Seek, O: Write, E: Write>(
         }
     }
 }
-
-/// Drops what was judged. Where a function holds it and ends in several ways, the proof follows each way through the drop of all its parts; here it
-/// does so once.
-pub(crate) fn let_go(_watched: Watched<LastRows>) {}
 
 // What small edits tell of this refusal, and what is answered of nodes with queues, and where less is judged.
 fn ask_again<A: Read + Seek, B: Read + Seek>(

@@ -43,16 +43,19 @@ module _ (line_alone : Bool) (head : Head) where
       by_line true passed later old new r f is = absurd is
       by_line false passed later old new r f is = f is
 
-  pub says_none : (passed : List Seen) (unit : List ℕ) → PacketsKnowIf line_alone head passed None → packet_charge_if line_alone head passed unit ≡ None
+  pub says_none : (passed : List Seen) (unit : List ℕ) → PacketsKnowIf line_alone head passed None →
+      packet_charge_if line_alone head passed unit ≡ None
   says_none = by_line line_alone
     where
-      by_line : (alone : Bool) (passed : List Seen) (unit : List ℕ) → PacketsKnowIf alone head passed None → packet_charge_if alone head passed unit ≡ None
+      by_line : (alone : Bool) (passed : List Seen) (unit : List ℕ) → PacketsKnowIf alone head passed None →
+          packet_charge_if alone head passed unit ≡ None
       by_line true passed unit is = refl
       by_line false passed unit is = absurd is
 
   pub says_one : (passed : List Seen) (unit : List ℕ) (said : Said) (packets : PacketAccusers) →
       (PacketsKnow head passed packets → IsSaid said (packet_charge head passed unit) (is_wrong_unit (history passed) unit)) →
-      PacketsKnowIf line_alone head passed (Some packets) → IsSaid said (packet_charge_if line_alone head passed unit) (is_doubted line_alone passed unit)
+      PacketsKnowIf line_alone head passed (Some packets) →
+      IsSaid said (packet_charge_if line_alone head passed unit) (is_doubted line_alone passed unit)
   says_one = by_line line_alone
     where
       by_line : (alone : Bool) (passed : List Seen) (unit : List ℕ) (said : Said) (packets : PacketAccusers) →

@@ -53,7 +53,8 @@ takes_nothing : (old : Held) → TakesNothing old old
 takes_nothing old = record { a = Keeps-refl old.a; b = Keeps-refl old.b }
 
 -- no head was read
-pub no_head : (last : Option (Side × ℕ)) (format : Format) (text : Option (List ℕ)) (old : Held) (fault : CaptureFault) → FaultShows WireHeadDeparts 1 text fault →
+pub no_head : (last : Option (Side × ℕ)) (format : Format) (text : Option (List ℕ)) (old : Held) (fault : CaptureFault) →
+    FaultShows WireHeadDeparts 1 text fault →
     Taps last format text old old (Err (fault_of fault))
 no_head last format text old (of_text.Departs kind line) shows = inl (record { departs = shows.1; line_is = shows.0 }, takes_nothing old)
 no_head last format text old of_text.Read shows = inl (takes_nothing old)
@@ -61,10 +62,12 @@ no_head last format text old of_text.OutOfMemory shows = inl (takes_nothing old)
 no_head last format text old of_text.Failed shows = absurd shows
 
 -- memory is refused
-pub none_taken : (last : Option (Side × ℕ)) (format : Format) (text : Option (List ℕ)) (old : Held) → Taps last format text old old (Err faults.OutOfMemory)
+pub none_taken : (last : Option (Side × ℕ)) (format : Format) (text : Option (List ℕ)) (old : Held) →
+    Taps last format text old old (Err faults.OutOfMemory)
 none_taken last format text old = inl (takes_nothing old)
 
-module _ (format : Format) (text left : Option (List ℕ)) (old : Held) (state : ListState) (opens : Opens wire_form.first_words text left (Ok state)) where
+module _ (format : Format) (text left : Option (List ℕ)) (old : Held) (state : ListState)
+    (opens : Opens wire_form.first_words text left (Ok state)) where
   abbrev pub wire_begun : Wire
   wire_begun = no_items state.node_a state.node_b
 
@@ -117,12 +120,14 @@ module _ (format : Format) (text left : Option (List ℕ)) (old : Held) (state :
         (subst (λ (w : Waiting). HandsOver head w.text was now) (sym new.waiting) over);
     named = tt;
     passed = subst (λ (w : Waiting). HavePassed (units_in []) w.units) (sym new.waiting)
-        (subst (λ (units : List (List ℕ)). HavePassed units placed.nothing.units) (sym (ap (λ (f : Framing). messages f.units) framing-nil)) none_passed);
+        (subst (λ (units : List (List ℕ)). HavePassed units placed.nothing.units) (sym (ap (λ (f : Framing). messages f.units) framing-nil))
+        none_passed);
     time = subst (λ (w : Waiting). AreInTime of [] [] w.units) (sym new.waiting) (none_in_time of []);
   }
 
   -- both heads are written
-  pub line_begun : SpellsNumbers format → (now : Held) (a b : SideTap) (of_a of_b : List ℕ) → IsNew a → IsNew b → of_a ≡ head_a format wire_begun → of_b ≡ head_b format wire_begun →
+  pub line_begun : SpellsNumbers format → (now : Held) (a b : SideTap) (of_a of_b : List ℕ) → IsNew a → IsNew b → of_a ≡ head_a format wire_begun →
+      of_b ≡ head_b format wire_begun →
       HandsOver of_a [] old.a now.a → HandsOver of_b [] old.b now.b → IsLineUnderWay format text old (line_state state.items come_begun a b now)
   line_begun spells now a b of_a of_b new_a new_b is_a is_b over_a over_b = record {
     spells = spells;

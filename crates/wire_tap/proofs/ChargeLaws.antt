@@ -35,7 +35,8 @@ module _ (head : Head) (before : List Seen) (unit : List ℕ) where
   all = before ++ Own unit ∷ []
 
   packet_means : (by : Charge) (wrong : Option PacketWrong) (back long changed : Bool) → wrong_unit head (heard before) unit ≡ wrong →
-      is_back_unit (told before) unit ≡ back → is_long_unit (history before) unit ≡ long → is_changed_unit (history before) (repeats before) unit ≡ changed →
+      is_back_unit (told before) unit ≡ back → is_long_unit (history before) unit ≡ long →
+      is_changed_unit (history before) (repeats before) unit ≡ changed →
       first_charge wrong back long changed ≡ Some by → SendsNone by head all
   packet_means by (Some wrong) back long changed w b l c e =
       subst (λ (x : Charge). SendsNone x head all) (same_charge Packet by e)

@@ -47,7 +47,8 @@ module _ (held piece : List ℕ) (kind : Kind) (strays : ℕ) (unit rest : List 
       omega (arith, length-append held piece, length-append unit rest)
 
   -- the line of that place is kept
-  pub place_known : (length held + length piece - (length unit + length rest) < 8) ⊎ (length held ≤ length held + length piece - (length unit + length rest))
+  pub place_known : (length held + length piece - (length unit + length rest) < 8) ⊎
+      (length held ≤ length held + length piece - (length unit + length rest))
   place_known = at (cases_lt (length held) 8) (cases_lt (length held + length piece - (length unit + length rest)) 8)
     where
       n : ℕ
@@ -60,7 +61,8 @@ module _ (held piece : List ℕ) (kind : Kind) (strays : ℕ) (unit rest : List 
           let all = header_found held piece kind strays unit rest left long found in
           absurd (omega (arith, length-append held piece))
 
-  module _ (side : Side) (lines : ℕ → ℕ) (place line : ℕ) (line_is : line ≡ lines (place + (length held + length piece - (length unit + length rest)))) where
+  module _ (side : Side) (lines : ℕ → ℕ) (place line : ℕ)
+      (line_is : line ≡ lines (place + (length held + length piece - (length unit + length rest)))) where
     places_are : units_at place (held ++ piece) ≡ unit_at (place + (length (held ++ piece) - length (unit ++ rest))) unit
         ∷ units_at (place + (length (held ++ piece) - length (unit ++ rest)) + length unit) rest
     places_are = found.passed.places place ∙ found.places (place + (length (held ++ piece) - length (unit ++ rest)))
@@ -108,7 +110,8 @@ module _ (held piece : List ℕ) (strays : ℕ) (now : List ℕ) (found : NoneFo
       at (inl short) = inl short
       at (inr long) = inr (ap length (header_kept held piece strays now left long found) ∙ length-append held piece)
 
-  pub finds_none : (line_alone : Bool) (a b : ℕ) (side : Side) (passed : List UnitPassed) (lines : ℕ → ℕ) (place : ℕ) (new : Direction) (told : Told) →
+  pub finds_none : (line_alone : Bool) (a b : ℕ) (side : Side) (passed : List UnitPassed) (lines : ℕ → ℕ) (place : ℕ) (new : Direction)
+      (told : Told) →
       IsTold line_alone a b passed told → new.framer.held ≡ now →
       KeepsLines lines (place + (length held + length piece - length now)) (length now) new.begun →
       FindsNone line_alone a b side passed lines place (held ++ piece) new told
@@ -128,7 +131,8 @@ module _ (held piece : List ℕ) (strays : ℕ) (now : List ℕ) (found : NoneFo
 -- ---- unit after unit
 
 -- some units of the bytes were found and told, and these are to come: those that are held, and a rest of the piece
-pub record IsUnderWay (line_alone : Bool) (a b : ℕ) (side : Side) (passed : List UnitPassed) (lines : ℕ → ℕ) (place line : ℕ) (bytes held rest : List ℕ)
+pub record IsUnderWay (line_alone : Bool) (a b : ℕ) (side : Side) (passed : List UnitPassed) (lines : ℕ → ℕ) (place line : ℕ)
+    (bytes held rest : List ℕ)
     (begun : Begun) (told : Told) : Type 0 where
   pub found : List UnitPassed
   pub tells : IsTold line_alone a b (passed ++ found) told
@@ -156,13 +160,15 @@ module _ (line_alone : Bool) (a b : ℕ) (side : Side) (passed : List UnitPassed
       same : place ≡ place + (length (held ++ piece) - length (held ++ piece))
       same = omega arith
 
-  module _ (bytes held rest : List ℕ) (begun : Begun) (told : Told) (way : IsUnderWay line_alone a b side passed lines place line bytes held rest begun told)
+  module _ (bytes held rest : List ℕ) (begun : Begun) (told : Told)
+      (way : IsUnderWay line_alone a b side passed lines place line bytes held rest begun told)
     where
       abbrev at : ℕ
       at = place + (length bytes - length (held ++ rest))
 
       -- one unit more, after which nothing is held
-      pub goes_on : (behind now : List ℕ) (begun' : Begun) (later : Told) → FindsOne line_alone a b side (passed ++ way.found) lines at (held ++ rest) behind later →
+      pub goes_on : (behind now : List ℕ) (begun' : Begun) (later : Told) →
+          FindsOne line_alone a b side (passed ++ way.found) lines at (held ++ rest) behind later →
           length behind < length (held ++ rest) → length behind ≤ length rest → now ≡ [] →
           IsUnderWay line_alone a b side passed lines place line bytes now behind begun' later
       goes_on behind now begun' later one less of_piece none =
@@ -174,7 +180,8 @@ module _ (line_alone : Bool) (a b : ℕ) (side : Side) (passed : List UnitPassed
           line_on : IsOnLine lines (place + (length bytes - length behind)) 0 (length behind) line
           line_on i least few =
               let within = way.within in
-              way.on_line (length (held ++ rest) - length behind + i) (omega (arith, length-append held rest)) (omega (arith, length-append held rest))
+              way.on_line (length (held ++ rest) - length behind + i) (omega (arith, length-append held rest))
+              (omega (arith, length-append held rest))
               ∙ ap lines (there i)
             where
               there : (i : ℕ) → at + (length (held ++ rest) - length behind + i) ≡ place + (length bytes - length behind) + i
@@ -194,7 +201,8 @@ module _ (line_alone : Bool) (a b : ℕ) (side : Side) (passed : List UnitPassed
           }
 
       -- there is no more
-      pub finds_all : (new : Direction) (later : Told) → FindsNone line_alone a b side (passed ++ way.found) lines at (held ++ rest) new later → new.side ≡ side →
+      pub finds_all : (new : Direction) (later : Told) → FindsNone line_alone a b side (passed ++ way.found) lines at (held ++ rest) new later →
+          new.side ≡ side →
           FindsAll line_alone a b side passed lines place bytes new later
       finds_all new later none same = record {
         tells = subst (λ (us : List UnitPassed). IsTold line_alone a b (passed ++ us) later) (sym (

@@ -40,7 +40,8 @@ few_counted count same few = omega arith
 
 -- ---- both sides, where no more is read
 
-module _ (last : Option (Side × ℕ)) (format : Format) (text : Option (List ℕ)) (old : Held) (line : LineState) (h : IsLineOver format text old line) where
+module _ (last : Option (Side × ℕ)) (format : Format) (text : Option (List ℕ)) (old : Held) (line : LineState)
+    (h : IsLineOver format text old line) where
   abbrev reached : Reached
   reached = record { wire = h.wire; come = h.come; a = h.a.records; b = h.b.records }
 
@@ -176,7 +177,8 @@ module _ (last : Option (Side × ℕ)) (format : Format) (text : Option (List �
           by_fault of_text.Failed shows memory = absurd shows
 
 -- the lines of all units were put
-module _ (last : Option (Side × ℕ)) (format : Format) (text : Option (List ℕ)) (old : Held) (line : LineState) (a b : Waiting) (h : IsLineOver format text old line)
+module _ (last : Option (Side × ℕ)) (format : Format) (text : Option (List ℕ)) (old : Held) (line : LineState) (a b : Waiting)
+    (h : IsLineOver format text old line)
     (put_a : PutsAll line.a.units.waiting a) (put_b : PutsAll line.b.units.waiting b) where
   abbrev pub put_line : LineState
   put_line = record line {
@@ -223,7 +225,8 @@ module _ (last : Option (Side × ℕ)) (format : Format) (text : Option (List �
   stops_put (stops.Text fault) s = (all_put s.0, s.1, s.2)
 
 -- the captures end with the last unit of a side, where of the other all passed
-pub stop_from : (last : Option (Side × ℕ)) (format : Format) (text : Option (List ℕ)) (old : Held) (line : LineState) (over : IsLineOver format text old line) (side : Side)
+pub stop_from : (last : Option (Side × ℕ)) (format : Format) (text : Option (List ℕ)) (old : Held) (line : LineState)
+    (over : IsLineOver format text old line) (side : Side)
     (ending : Ending) → others_at (other_side side) over ≡ [] → EndsAt (aim last side) (units_at side over) ending
     → StopsAs over last (stops.Ends ending)
 stop_from last format text old line over side ending none ends = by_ending ending ends
@@ -242,7 +245,8 @@ stop_from last format text old line over side ending none ends = by_ending endin
 
 -- ---- behind the last piece
 
-module _ (last : Option (Side × ℕ)) (format : Format) (text : Option (List ℕ)) (old : Held) (line : LineState) (a b : Waiting) (h : IsLineOver format text old line)
+module _ (last : Option (Side × ℕ)) (format : Format) (text : Option (List ℕ)) (old : Held) (line : LineState) (a b : Waiting)
+    (h : IsLineOver format text old line)
     (put_a : PutsAll line.a.units.waiting a) (put_b : PutsAll line.b.units.waiting b) where
   -- a write fails
   pub put_fails : (side : Side) (n m : ℕ) (new : Outlet × Outlet) → FailsAt side (outlet a.text line.now.a n, outlet b.text line.now.b m) new →

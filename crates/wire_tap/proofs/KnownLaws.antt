@@ -184,7 +184,8 @@ module _ (line_alone : Bool) (head : Head) (side : Side) (passed : List UnitPass
       seen-more side passed this ∙ ap (λ (one : Seen). seen side passed ++ one ∷ []) (sees_own side unit) in
       subst (λ (all : List Seen). Know line_alone head all accusers) (sym same) known
 
-  pub known_this : (new : SideAccused) → new.side ≡ s.side → new.count ≡ counted s.count 1 → FirstIs line_alone head side with_this new.first new.accusers →
+  pub known_this : (new : SideAccused) → new.side ≡ s.side → new.count ≡ counted s.count 1 →
+      FirstIs line_alone head side with_this new.first new.accusers →
       SegmentIs line_alone head side with_this new.segment → IsKnown line_alone head side with_this new
   known_this new same count first segment = record {
     side_is = same ∙ is.side_is;

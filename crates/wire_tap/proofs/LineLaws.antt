@@ -40,7 +40,14 @@ same_few n m e = omega (arith, e)
 
 module _ (format : Format) (text : Option (List ℕ)) (old : Held) (line : LineState) (h : IsLineUnderWay format text old line) where
   pub line_over : IsLineOver format text old line
-  line_over = record { spells = h.spells; wire = h.wire; come = line.come; read = h.read; a = over_all _ _ _ _ _ _ _ line.a h.a; b = over_all _ _ _ _ _ _ _ line.b h.b }
+  line_over = record {
+    spells = h.spells;
+    wire = h.wire;
+    come = line.come;
+    read = h.read;
+    a = over_all _ _ _ _ _ _ _ line.a h.a;
+    b = over_all _ _ _ _ _ _ _ line.b h.b;
+  }
 
   all_over_line : IsAllOver line_over
   unfolding line_over over_all

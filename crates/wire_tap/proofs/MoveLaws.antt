@@ -137,7 +137,8 @@ module _ (first second other later : List (List ℕ)) (a b c : Waiting) (p : Mov
           lasts side pieces (sent + length a.units.own) (sent + length (units_sent p.records) + length b.units.own) number
           (omega (arith, len, before, after)) (more number (omega (arith, less, count, both)))
 
-      sent_both : (sent : ℕ) → sent + length (units_sent p.records) + length (units_sent q.records) ≡ sent + length (units_sent (p.records ++ q.records))
+      sent_both : (sent : ℕ) → sent + length (units_sent p.records) + length (units_sent q.records)
+          ≡ sent + length (units_sent (p.records ++ q.records))
       sent_both sent =
           let len = ap length (sent-append p.records q.records) in
           let both = length-append (units_sent p.records) (units_sent q.records) in

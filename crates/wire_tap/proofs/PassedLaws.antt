@@ -1,5 +1,6 @@
 -- The units that passed, and the lines of their first bytes, from one piece to the next.
-use Rattle.std.proofs.Common.{◌≡◌, ◌⊎◌, inl, inr, ℕ, ◌+◌, ◌-◌, ◌<◌, ◌≤◌, Bool, true, false, Option, Some, None, List, [], ◌∷◌, ◌++◌, length, drop, map, refl, sym, ap, subst}
+use Rattle.std.proofs.Common.{◌≡◌, ◌⊎◌, inl, inr, ℕ, ◌+◌, ◌-◌, ◌<◌, ◌≤◌, Bool, true, false, Option}
+use Rattle.std.proofs.Common.{Some, None, List, [], ◌∷◌, ◌++◌, length, drop, map, refl, sym, ap, subst}
 use Rattle.std.proofs.Common.{◌∙◌, arith, append_assoc, append-nil, length-append}
 use Rattle.std.proofs.lemmas.Bool.{ltb-true, ltb-false}
 use Rattle.std.proofs.lemmas.List.{drop_at, length-map, map-append}
@@ -57,7 +58,8 @@ after-push before [] p = append-nil (passed_with before p) ∙ same_before befor
 after-push before (q ∷ pieces) p =
     ap (λ (us : List UnitPassed). passed_with before q ++ us) (after-push (before ++ q ∷ []) pieces p)
     ∙ sym (append_assoc (passed_with before q) (passed_after (before ++ q ∷ []) pieces) (passed_with ((before ++ q ∷ []) ++ pieces) p))
-    ∙ ap (λ (ps : List Piece). (passed_with before q ++ passed_after (before ++ q ∷ []) pieces) ++ passed_with ps p) (append_assoc before (q ∷ []) pieces)
+    ∙ ap (λ (ps : List Piece). (passed_with before q ++ passed_after (before ++ q ∷ []) pieces) ++ passed_with ps p)
+    (append_assoc before (q ∷ []) pieces)
 
 pub passed-push : (pieces : List Piece) (p : Piece) → passed_in (pieces ++ p ∷ []) ≡ passed_in pieces ++ passed_with pieces p
 passed-push pieces p = after-push [] pieces p
@@ -133,7 +135,8 @@ line-last side line (q ∷ pieces) p place least less =
     line_else (nat_lt place n) line _ (line + length (q ∷ pieces))
     (λ e. let near = ltb-true place n e in absurd (omega (arith, long)))
     (λ e. let far = ltb-false place n e in
-    line-last side (line + 1) pieces p (place - n) (omega (arith, long)) (omega (arith, long)) ∙ count (length pieces) (length (q ∷ pieces)) (omega arith))
+    line-last side (line + 1) pieces p (place - n) (omega (arith, long)) (omega (arith, long))
+    ∙ count (length pieces) (length (q ∷ pieces)) (omega arith))
   where
     n : ℕ
     n = length (bytes_if side q.side q.bytes)
@@ -178,7 +181,8 @@ lined_by side lines [] = refl
 lined_by side lines (u ∷ us) =
     ap (units_by side) (map-append (lined side lines) (message_of (kind_of (slice_index u.unit 0)) u) (messages_at us))
     ∙ by_append side (map (lined side lines) (message_of (kind_of (slice_index u.unit 0)) u)) (with_lines side lines us)
-    ∙ ap (λ (rest : List (List ℕ)). units_by side (map (lined side lines) (message_of (kind_of (slice_index u.unit 0)) u)) ++ rest) (lined_by side lines us)
+    ∙ ap (λ (rest : List (List ℕ)). units_by side (map (lined side lines) (message_of (kind_of (slice_index u.unit 0)) u)) ++ rest)
+    (lined_by side lines us)
     ∙ ap (λ (first : List (List ℕ)). first ++ messages (only_units us)) (one_by side lines (kind_of (slice_index u.unit 0)) u)
 
 -- of the other side they are none

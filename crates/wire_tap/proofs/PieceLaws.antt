@@ -23,7 +23,8 @@ use Rattle.wire_tap.specs.declared.told.Told.{Told}
 use Rattle.wire_tap.specs.declared.accusers.Accusers.{Accusers}
 use Rattle.wire_tap.specs.declared.suspects.Suspect.{Suspect}
 use Rattle.wire_tap.specs.declared.tapped.Passed.{Passed}
-use Rattle.wire_tap.specs.inner.Accused.{FindsAll, FirstIs, IsBehind, IsLineBehind, IsOnLine, IsReading, IsTold, KeepsLines, Leaves, LeavesSegment, SegmentIs}
+use Rattle.wire_tap.specs.inner.Accused.{FindsAll, FirstIs, IsBehind, IsLineBehind, IsOnLine}
+use Rattle.wire_tap.specs.inner.Accused.{IsReading, IsTold, KeepsLines, Leaves, LeavesSegment, SegmentIs}
 use Rattle.wire_tap.proofs.PassedLaws.{all_bytes, line-before, line-last, own_bytes, passed-push, with-is}
 use Rattle.wire_tap.proofs.SideLaws.{bytes_more}
 
@@ -68,7 +69,8 @@ module _ (side : Side) (pieces : List Piece) (bytes : List ℕ) (d : Direction) 
       keeps = λ i few near. f.keeps i few near ∙ ap (line_at side 2 more) (there i);
     }
       where
-        there : (i : ℕ) → place + (length (d.framer.held ++ bytes) - length new.framer.held) + i ≡ length (bytes_of side more) - length new.framer.held + i
+        there : (i : ℕ) → place + (length (d.framer.held ++ bytes) - length new.framer.held) + i
+            ≡ length (bytes_of side more) - length new.framer.held + i
         there i =
             let within = held_within in
             let all = ap length (all_bytes side pieces bytes) in

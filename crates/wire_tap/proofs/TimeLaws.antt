@@ -53,7 +53,8 @@ module _ (side : Side) (pieces : List Piece) (records : List Record) where
 
   -- units passed, and lines were put
   module _ (units other : List (List ℕ)) (old new : Waiting) (moves : MovesOn units other old new) (h : AreInTime side pieces records old.units) where
-    pub time_moves : HoldsOfMore side pieces (length (units_sent records)) other old.units → AreInTime side pieces (records ++ moves.records) new.units
+    pub time_moves : HoldsOfMore side pieces (length (units_sent records)) other old.units →
+        AreInTime side pieces (records ++ moves.records) new.units
     time_moves more =
         let sent = length (units_sent records) in
         let both = moves.come side pieces sent h.holds more in

@@ -1,6 +1,7 @@
 //! What is said of the units that no correct node sent.
 
 use crate::tapped::Passed;
+use beyond::NodeKind;
 use wire_base::Side;
 
 /// The first unit of each side that no correct node sent after what had passed, whatever came to it of that, whatever was lost or damaged, and
@@ -16,6 +17,10 @@ pub struct Accused {
     pub segment_b: Option<Passed>,
     /// What shows that the recording is not whole. What is said besides had passed before it.
     pub broken: Option<Broken>,
+    /// What the first Init message of side a that tells it says that its node is.
+    pub kind_a: Option<NodeKind>,
+    /// So for side b.
+    pub kind_b: Option<NodeKind>,
 }
 
 impl Accused {
@@ -26,6 +31,8 @@ impl Accused {
         segment_a: None,
         segment_b: None,
         broken: None,
+        kind_a: None,
+        kind_b: None,
     };
 }
 
@@ -41,10 +48,10 @@ pub struct Accusation {
 pub enum Exception {
     /// Its acknowledgements wait in a queue of their own: a data acknowledgement message goes back.
     AcknowledgementQueue,
-    /// It is a router: the packet is not from it.
+    /// It is a router: the packet is from the other node to itself.
     IsRouter,
-    /// The other side is a router: the packet is from this side to a third node.
-    OtherIsRouter,
+    /// The line leads to a router: the packet is from or to this node, which is neither of the two.
+    NamesOther { node: u16 },
     /// Its user gave up the call before it was answered: a DI to address 0.
     GaveUpCall,
     /// Messages of the other subchannel acknowledged its data: a segment goes again changed.
@@ -73,7 +80,7 @@ pub enum Broken {
     },
     /// Readable packets of both sides have the addresses of the nodes exchanged: the head is wrong.
     Exchanged,
-    /// This side's data units have packets, and none of them is from its node to the other one: the head is wrong, or the line joins routers.
+    /// This side's data units have packets, and none of them is from its node to the other one: the head is wrong, or the line leads to a router.
     NotBetween {
         side: Side,
     },

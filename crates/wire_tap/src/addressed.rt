@@ -1,5 +1,6 @@
 //! From which node to which a unit's packet goes.
 
+use beyond::other_of;
 use ddcmp_msg::{Message, Reading, read_unit};
 use dna_packet::{Nsp, Packet, read_nsp, read_packet};
 
@@ -14,10 +15,12 @@ pub(crate) enum Addressed {
     OutToNoLink,
     /// From the other node to this one.
     Back,
-    /// From this node to a third one.
-    ToThird,
-    /// From a third node; or from the other one to a third.
-    FromOthers,
+    /// From or to this node, which is neither of the two.
+    Elsewhere(u16),
+    /// From this node to itself.
+    ToItself,
+    /// From the other node to itself.
+    FromOther,
 }
 
 impl Addressed {
@@ -25,7 +28,8 @@ impl Addressed {
     pub(crate) fn is_wrong(self) -> bool {
         match self {
             Addressed::Nowhere | Addressed::Out | Addressed::OutToNoLink => false,
-            Addressed::Back | Addressed::ToThird | Addressed::FromOthers => true,
+            Addressed::Back | Addressed::Elsewhere(_) => true,
+            Addressed::ToItself | Addressed::FromOther => true,
         }
     }
 }
@@ -81,11 +85,14 @@ fn out(nsp: &[u8]) -> Addressed {
 
 // Not from this node to the other one.
 fn wrongly_addressed(own: u16, peer: u16, dst: u16, src: u16) -> Addressed {
-    if src == own {
-        return Addressed::ToThird;
+    if let Some(node) = other_of(own, peer, src, dst) {
+        return Addressed::Elsewhere(node);
     }
-    if src == peer && dst == own {
+    if src == own {
+        return Addressed::ToItself;
+    }
+    if dst == own {
         return Addressed::Back;
     }
-    Addressed::FromOthers
+    Addressed::FromOther
 }

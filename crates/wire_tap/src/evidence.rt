@@ -5,6 +5,7 @@ use crate::addressed::Addressed;
 use crate::shown::{Shown, may_begin};
 use crate::suspects::Suspect;
 use crate::tapped::Passed;
+use beyond::NodeKind;
 use wire_base::Side;
 
 /// What both directions of a recording show.
@@ -86,6 +87,11 @@ impl Evidence {
             return self.misaddressed(before.side);
         }
         None
+    }
+
+    /// What the first Init message of this side that tells it says that its node is.
+    pub(crate) fn kind(&self, side: Side) -> Option<NodeKind> {
+        self.shown(side).kind
     }
 
     fn shown(&self, side: Side) -> &Shown {

@@ -36,8 +36,9 @@ pub(crate) fn exception_of(charge: Charge, addressed: Addressed) -> Option<Excep
 fn of_packet(addressed: Addressed) -> Option<Exception> {
     match addressed {
         Addressed::Nowhere | Addressed::Out | Addressed::Back => None,
-        Addressed::FromOthers => Some(Exception::IsRouter),
-        Addressed::ToThird => Some(Exception::OtherIsRouter),
+        Addressed::ToItself => None,
+        Addressed::FromOther => Some(Exception::IsRouter),
+        Addressed::Elsewhere(node) => Some(Exception::NamesOther { node }),
         Addressed::OutToNoLink => Some(Exception::GaveUpCall),
     }
 }

@@ -2,6 +2,7 @@
 
 use crate::addressed::Addressed;
 use crate::tapped::Passed;
+use beyond::{NodeKind, kind_in_unit};
 use ddcmp_msg::{Reading, read_unit};
 
 // The bytes with which a STRT and a STACK begin.
@@ -42,6 +43,8 @@ pub(crate) struct Shown {
     goes_out: bool,
     goes_back: bool,
     goes_elsewhere: bool,
+    /// What the first Init message that tells it says that the node is.
+    pub(crate) kind: Option<NodeKind>,
 }
 
 impl Shown {
@@ -54,6 +57,7 @@ impl Shown {
         goes_out: false,
         goes_back: false,
         goes_elsewhere: false,
+        kind: None,
     };
 
     /// So many bytes belong to no unit.
@@ -102,11 +106,15 @@ impl Shown {
         if self.damage.is_none() && is_damaged(unit) {
             self.damage = Some(Damage { passed, order });
         }
+        if self.kind.is_none() {
+            self.kind = kind_in_unit(unit);
+        }
         match goes {
             Addressed::Nowhere => {}
             Addressed::Out | Addressed::OutToNoLink => self.goes_out = true,
             Addressed::Back => self.goes_back = true,
-            Addressed::ToThird | Addressed::FromOthers => self.goes_elsewhere = true,
+            Addressed::Elsewhere(_) => self.goes_elsewhere = true,
+            Addressed::ToItself | Addressed::FromOther => self.goes_elsewhere = true,
         }
     }
 

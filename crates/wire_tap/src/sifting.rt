@@ -8,6 +8,7 @@ use crate::accusation::{Accusation, Accused, Broken};
 use crate::evidence::Evidence;
 use crate::suspects::Suspect;
 use crate::tapped::Passed;
+use wire_base::Side;
 
 /// Both sides' first units that are accused, and their first segments that are if they send all they composed.
 #[derive(Clone, Copy)]
@@ -51,6 +52,8 @@ impl Suspects {
             segment_a,
             segment_b,
             broken: stop.broken,
+            kind_a: evidence.kind(Side::A),
+            kind_b: evidence.kind(Side::B),
         }
     }
 }

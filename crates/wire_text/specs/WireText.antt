@@ -4,7 +4,7 @@ use Rattle.hex.specs.Hex.{IsBytes}
 use Rattle.wire_base.specs.declared.side.Side.{Side}
 use Rattle.wire_base.specs.Side.{side_letter}
 use Rattle.capture.specs.declared.fault.Departure.{Departure}
-use Rattle.capture.specs.declared.fault.Departure.TheVariants.{Syntax, TooLong, TooMany}
+use Rattle.capture.specs.declared.fault.Departure.TheVariants.{Syntax, TooLong, TooMany, Part}
 use Rattle.capture.specs.Text.{bytes_text, spaced}
 use Rattle.capture.specs.Listed.{Listed, ListForm, ItemDeparts, ListHeadDeparts}
 use Rattle.wire_text.specs.declared.limit.TheConstants.{MAX_PIECE, MAX_PIECES}
@@ -46,6 +46,7 @@ abbrev pub WordsDepart : Departure → List ℕ → Type 0
 WordsDepart TooMany line = ⊥
 WordsDepart TooLong line = ⊥
 WordsDepart Syntax line = (piece : Piece) → HasSpelling piece → line ≡ piece_text piece → ⊥
+WordsDepart Part line = ⊥
 
 -- ---- the text
 

@@ -2,8 +2,8 @@
 //! passed.
 //!
 //! The crate decides which bytes are such a text, which pieces they spell, and where and how a text departs from the format. It never touches a
-//! file or a clock, nor what the pieces mean: where a unit begins in them is `framer`'s. A packet capture, which somebody may take for such a text, it
-//! tells by its first bytes.
+//! file or a clock, nor what the pieces mean: where a unit begins in them is `framer`'s. A packet capture, which somebody may take for such a text,
+//! it tells by its first bytes.
 #![tactic(auto)]
 
 mod limit;

@@ -1,7 +1,7 @@
 """Bugs in packets, in messages of NSP, and of links, and two that no rule forbids. The words are those of docs/REASONS.md."""
 from tests.nodes import small_sessions as at
 from tests.nodes.bugs import bug
-from tests.nodes.small_node import BEGINS, CI, DC, DI, ENDS, Node, word
+from tests.nodes.small_node import BEGINS, CI, DC, DI, ENDS, Link, Node, word
 
 # ---- packets
 
@@ -150,6 +150,12 @@ class DisconnectTimerRuns(Node):
 class CallsByItself(Node):
     def hello(self):
         return self.packet(bytes([CI]) + word(0) + word(77) + bytes([1, 2]) + word(self.SIZE))
+
+
+@bug(18, 'a repeated CI is shown to the user as a new call', at.called_again)
+class ShowsRepeats(Node):
+    def come_connect(self, far, size):
+        self.links.append(Link(0, far, 'Called', False, size))
 
 
 @bug(19, 'data is sent after the CC without waiting for an answer', at.quiet)

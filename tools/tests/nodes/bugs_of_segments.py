@@ -118,6 +118,14 @@ class DataChanged(Node):
         return super().segment(link, number)
 
 
+@bug(20, 'an acknowledgement word before SEGNUM lacks bit 15 and is read as SEGNUM', at.quiet)
+class WordAsNumber(Node):
+    def segment(self, link, number):
+        message = super().segment(link, number)
+        # a number that the other end acknowledged: another one it might keep, and deliver
+        return message[:6] + bytes([message[6] & 0x7f]) + message[7:] if link.received <= link.acknowledged else message
+
+
 # ---- acknowledgements of segments
 
 

@@ -194,6 +194,18 @@ def links_again(nodes, chance):
         run(nodes, chance)
 
 
+def called_again(nodes, chance):
+    """Links are opened, and both stations start again before these run, so that calls go once more."""
+    started(nodes, chance)
+    for _ in range(6):
+        for side in 'ab':
+            nodes[side].open()
+        for _ in range(chance.randrange(2, 14)):
+            step(nodes, chance, 0.0)
+        restart(nodes)
+        run(nodes, chance)
+
+
 def opened_while_closing(nodes, chance):
     """A link is opened while another is being closed, and while others run."""
     linked(nodes, chance)

@@ -1,9 +1,12 @@
 -- The fields of a reader of a capture.
-use Rattle.std.specs.Prelude.{◌≡◌, ◌-◌, ◌+◌, ◌≤◌, length, take}
+use Rattle.std.specs.Prelude.{◌≡◌, ℕ, ◌-◌, ◌+◌, ◌≤◌, [], length, take}
 use Rattle.capture.specs.declared.reader.CaptureReader.TheInside.{Inside}
 use Rattle.capture_record.specs.declared.limit.TheConstants.{MAX_MESSAGE}
 use Rattle.capture.specs.declared.limit.TheConstants.{MAX_RECORDS}
 use Rattle.capture.specs.Range.{FormFits}
+use Rattle.capture.specs.declared.hint.HintForm.{HintForm}
+use Rattle.capture.specs.declared.phase.Phase.TheVariants.{Reading}
+use Rattle.capture.specs.Lines.{LineState}
 use Rattle.capture.specs.Reader.{CaptureState}
 
 abbrev pub capture_state : Inside → CaptureState
@@ -18,6 +21,11 @@ capture_state r = record {
   line = r.lines.last;
   bytes = take r.len r.room.items;
 }
+
+-- the reader of the records behind a head
+abbrev pub state_at : (own peer : ℕ) → HintForm → LineState → CaptureState
+state_at own peer form lines =
+    record { own = own; peer = peer; form = form; records = 0; phase = Reading; unread = lines.unread; line = lines.last; bytes = [] }
 
 -- the head's line is one of those taken, the bytes are within the room, and the mark is within its range
 pub record IsCounted (r : Inside) : Type 0 where

@@ -147,7 +147,8 @@ impl<T: Copy, W: Window<HeldPacket<T>, 256>> Station<T, W> {
         }
     }
 
-    /// The same as [`Station::arrive`], as a call of its own: beside the work that a kept packet makes it costs nothing, and it keeps its caller small.
+    /// The same as [`Station::arrive`], as a call of its own: beside the work that a kept packet makes it costs nothing, and it keeps its caller
+    /// small.
     #[inline(never)]
     pub fn arrive_apart(&mut self, arrival: Arrival, row: ArrivalRow, kept: bool)
         requires load { load self.old < 2 ^ 63 }

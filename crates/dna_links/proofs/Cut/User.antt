@@ -168,7 +168,8 @@ module _ (s : Links) where
   user_same (Reject far own) = answers_same Disconnecting far own refl
   user_same (In own message) =
       with_link_same Without (cut_result Without) (LiveAt own) s (Err NoLink) (Err NoLink)
-      (λ n l. check (takes_messages l.port.phase) (refused_in l.port.phase LinkState) (Ok (changed n (with_segments (hands_in message l.segments) l) s)))
+      (λ n l. check (takes_messages l.port.phase) (refused_in l.port.phase LinkState)
+      (Ok (changed n (with_segments (hands_in message l.segments) l) s)))
       (λ n l. check (takes_messages l.port.phase) (refused_in l.port.phase LinkState)
       (Ok (changed n (with_segments (wire.hands_in message l.segments) l) (cut_links Without s))))
       (λ none. refl) (λ n l there here.

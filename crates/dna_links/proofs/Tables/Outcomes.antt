@@ -164,10 +164,12 @@ module _ {D K : Type 0} (book : SegmentBook D K) where
         (λ none e. absurd cc) (λ number link found e. delivered_did own message number link found _ refl e)
     user_did (Close own) e =
         looked (LiveAt own) s (Err NoLink)
-        (λ number link. check (is_connected link.port.phase) (refused_in link.port.phase LinkState) (Ok (changed number (in_phase Disconnecting link) s))) (Ok left) e
+        (λ number link. check (is_connected link.port.phase) (refused_in link.port.phase LinkState)
+        (Ok (changed number (in_phase Disconnecting link) s))) (Ok left) e
         (λ none e. absurd cc) (λ number link found e. let c = checked _ _ _ left e in did (Close own) _ (Closes own number link found c.0) c.1)
     user_did (Abort own) e =
         looked (LiveAt own) s (Err NoLink)
-        (λ number link. check (is_calling link.port.phase) (refused_in link.port.phase LinkState) (Ok (changed number (ended book link) s))) (Ok left) e
+        (λ number link. check (is_calling link.port.phase) (refused_in link.port.phase LinkState) (Ok (changed number (ended book link) s))) (Ok left)
+        e
         (λ none e. absurd cc) (λ number link found e. let c = checked _ _ _ left e in did (Abort own) _ (Aborts own number link found c.0) c.1)
     user_did Boot e = did Boot (booted book Without s) Boots e

@@ -150,7 +150,8 @@ module _ {D K R : Type 0} (queues : Queues) (book : SegmentBook D K) (rule rule'
         with_both Goes s _ _ _ _ (waits_along queues test refusal _ _ (asked_along asks may number l known))
         (λ n x. asked_along asks may (Some n) x (book.sends_other x.segments)) test
     asked_along (InPhase phases refusal ∷ asks) may number l known =
-        in_phase_along forget is_seen (in_use queues l) (in_use queues (forget_link l)) (use_along queues l) phases refusal _ _ (asked_along asks may number l known)
+        in_phase_along forget is_seen (in_use queues l) (in_use queues (forget_link l)) (use_along queues l) phases refusal _ _
+        (asked_along asks may number l known)
     asked_along (InTurn phase refusal ∷ asks) may number l known =
         checked_along forget is_seen (may_send queues phase l) (may_send queues phase (forget_link l)) refusal _ _
         (may_along queues phase l) (asked_along asks may number l known)

@@ -1,23 +1,11 @@
 -- A unit that is damaged by a step of a script shows it, and its bytes are no longer those that were sent.
-use Rattle.std.proofs.Common.{refl, ◌≡◌, ◌≢◌, ℕ, suc, ◌<◌, ◌≤◌, ◌^◌, true, false, ◌&&◌, List, ◌∷◌, ◌++◌, length, sym, ap, ◌∙◌, subst, arith, ltb-true}
-use Rattle.std.proofs.Common.{leb-true, inl, inr, nat_lt, nat_le, lt-ltb, le-leb}
-use Rattle.std.specs.Prelude.{slice_index, bytes_eq, bit_xor, drop, nat_lt, nat_le, take}
-use Rattle.std.specs.Int.Bits.{xor_self, xor_zero_l, xor_assoc}
-use Rattle.std.proofs.lemmas.Bool.{and_parts, false_from_ne_true}
-use Rattle.std.proofs.lemmas.List.{append_cancel_left, set-get_or, set_split}
-use Rattle.std.proofs.lemmas.Nat.{xor_of_8}
-use Rattle.std.proofs.lemmas.Slice.Eq.{bytes_eq-Decides}
-use Rattle.ddcmp_msg.specs.Message.{MessageValue}
-use Rattle.ddcmp_msg.specs.Spelling.{IsUnit}
-use Rattle.ddcmp_msg.specs.Reading.{ReadingValue, HeaderBad, DataBad, Sound, reading}
-use Rattle.ddcmp_msg.proofs.Damage.{damage_shows}
-use Rattle.ddcmp_msg.proofs.Rule.{reading_follows}
-use Rattle.ddcmp_msg.specs.ReadingRule.{IsReading}
-use Rattle.dna_play.specs.HasLine.{are_bytes}
-use Rattle.dna_station.specs.Book.{ArrivalValue}
+use Rattle.dna_play.proofs.Prelude.{refl, ◌≡◌, ◌≢◌, ℕ, suc, ◌<◌, ◌≤◌, ◌^◌, true, false, ◌&&◌, List, ◌∷◌, ◌++◌, length, sym, ap, ◌∙◌, subst, arith}
+use Rattle.dna_play.proofs.Prelude.{ltb-true, leb-true, inl, inr, nat_lt, nat_le, lt-ltb, le-leb, slice_index, bytes_eq, bit_xor, drop, take}
+use Rattle.dna_play.proofs.Prelude.{xor_self, xor_zero_l, xor_assoc, and_parts, false_from_ne_true, append_cancel_left, set-get_or, set_split}
+use Rattle.dna_play.proofs.Prelude.{xor_of_8, bytes_eq-Decides, MessageValue, IsUnit, ReadingValue, HeaderBad, DataBad, reading, damage_shows}
+use Rattle.dna_play.proofs.Prelude.{reading_follows, IsReading, are_bytes, ArrivalValue, is_damage, damaged, IsNoise, IsHurt}
+use Rattle.ddcmp_msg.specs.Reading.{Sound}
 use Rattle.dna_station.specs.Book as book
-use Rattle.dna_play.specs.Receipt.{is_damage, damaged}
-use Rattle.dna_play.specs.StepRule.{IsNoise, IsHurt}
 use Rattle.dna_play.proofs.Bytes.{bytes_told}
 
 -- ---- what a block check shows: the header is damaged, or the data

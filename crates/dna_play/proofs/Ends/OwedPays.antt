@@ -1,14 +1,10 @@
 -- What a station of the player owes stays payable with one thing more, and where a record leaves its causes open.
-use Rattle.std.proofs.Common.{◌≡◌, ◌+◌, Bool, true, false, cond, Option, Some, None, refl, sym, ◌∙◌, arith, lt-ltb}
-use Rattle.std.proofs.lemmas.Bool.{and_parts, not-true}
-use Rattle.ddcmp_msg.specs.declared.nak_reason.NakReason.{NakReason}
-use Rattle.ddcmp_msg.specs.declared.nak_reason.NakReason.TheVariants.{HeaderCheck, DataCheck, RepResponse, NoBuffer}
-use Rattle.dna_station.specs.declared.state.State.{State}
+use Rattle.dna_play.proofs.Prelude.{◌≡◌, ◌+◌, Bool, true, false, cond, Option, Some, None, refl, sym, ◌∙◌, arith, lt-ltb, and_parts, not-true}
+use Rattle.dna_play.proofs.Prelude.{NakReason, HeaderCheck, DataCheck, RepResponse, NoBuffer, State, Causes, with_cause, has_cause, without_cause}
+use Rattle.dna_play.proofs.Prelude.{StationVariables, Owed, Debt, OwesStrt, OwesStack, OwesAck, OwesRep, OwesNak, with_nak, with_debt, same_state}
+use Rattle.dna_play.proofs.Prelude.{all_acknowledged, timer_debt, still_owed}
 use Rattle.dna_station.specs.declared.state.State.TheVariants.{Running}
-use Rattle.dna_station.specs.NakCauses.{Causes, with_cause, has_cause, without_cause}
-use Rattle.dna_station.specs.WireStation.{StationVariables}
-use Rattle.dna_play.specs.Owed.{Owed, nothing, Debt, OwesStrt, OwesStack, OwesAck, OwesRep, OwesNak, with_nak, with_debt, same_state, unless_left}
-use Rattle.dna_play.specs.Owed.{all_acknowledged, timer_debt, still_owed}
+use Rattle.dna_play.specs.Owed.{nothing, unless_left}
 use Rattle.dna_play.proofs.Ends.StationPays.{owes_nak, IsPayable}
 
 -- ---- causes

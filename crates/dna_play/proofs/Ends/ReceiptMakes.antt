@@ -1,51 +1,16 @@
 -- What comes to a node of the player it takes: a unit as it was sent, with its packet where that can be taken, and a damaged one.
-use Rattle.std.proofs.Common.{◌≡◌, ℕ, ◌+◌, ◌≤◌, Bool, true, false, cond, Some, None, option_map, List, Result, Ok, refl, ap, ◌∙◌, le-ltb, eq-eqb, sym}
-use Rattle.std.specs.Prelude.{slice_get, bytes_eq}
-use Rattle.std.proofs.lemmas.Bool.{and_parts}
-use Rattle.std.proofs.lemmas.Option.{slice_get-map}
-use Rattle.std.proofs.lemmas.Slice.Eq.{bytes_eq-Decides}
-use Rattle.two_nodes.specs.Nodes.{Made, stepped, advance}
-use Rattle.ddcmp_msg.specs.Message.{MessageValue}
-use Rattle.ddcmp_msg.specs.Reading.{reading}
-use Rattle.dna_packet.specs.Nsp.{NspValue, DataSegment, LinkService, DataAck, OtherDataAck, ConnectInitiate, ConnectConfirm, DisconnectInitiate}
-use Rattle.dna_packet.specs.Nsp.{DisconnectConfirm}
-use Rattle.capture_record.specs.declared.fate.Fate.{Fate}
-use Rattle.capture_record.specs.declared.fate.Fate.TheVariants.{NotKept}
-use Rattle.capture_record.specs.Fates.{is_kept, is_met}
-use Rattle.capture_record.specs.declared.record.Record.TheVariants.{Received}
-use Rattle.dna_links.specs.declared.queue.Queues.TheVariants.{Without}
-use Rattle.dna_links.specs.declared.port.LinkTest.{LinkTest}
-use Rattle.dna_links.specs.declared.port.LinkTest.TheVariants.{LiveTo, TheLink, CallingAt, ActedOn}
-use Rattle.dna_station.specs.declared.link_refusal.LinkRefusal.{LinkRefusal}
-use Rattle.dna_station.specs.declared.refusal.StepRefusal.{StepRefusal}
-use Rattle.dna_station.specs.Table.{row}
-use Rattle.dna_station.specs.Book.{Sound, has_packet, num_of}
-use Rattle.dna_station.specs.StationBook.{arrival_refusal, after_arrival}
-use Rattle.dna_station.specs.Bounds.{IsWithin}
-use Rattle.dna_station.specs.WireNode.{unlabelled}
-use Rattle.dna_station.specs.WireStation.{StationVariables}
-use Rattle.dna_station.specs.WireBook.{wire_is_next, wire_arrival_refusal}
-use Rattle.dna_station.specs.Line.{coming_by}
-use Rattle.dna_station.specs.Machine.{comes}
-use Rattle.dna_links.specs.Links.{LinkOf, LinkTruth, with_link}
-use Rattle.dna_links.specs.Arriving.{of_anyone, message_arrived}
-use Rattle.dna_links.specs.TrueSegments.{TrueSegments, Numbers, true_segments}
-use Rattle.dna_links.specs.TrueLinks.{Links, links_arrived}
-use Rattle.dna_links.specs.Runs.{SentMessage}
-use Rattle.dna_node.specs.TagRules.{by_bytes, judged}
-use Rattle.dna_station.specs.PeriodRule.{PeriodRule}
-use Rattle.dna_station.specs.Cut.{cut}
-use Rattle.dna_links.proofs.Tables.Outcomes.{looked}
-use Rattle.dna_play.proofs.Played.Facts.{Facts}
-use Rattle.dna_play.proofs.Stored.Segments.{left_half}
-use Rattle.dna_play.proofs.Ends.TrueEnd.{End, variables_of}
-use Rattle.dna_node.specs.Layers.{Layers, LayersNode, LayersUnit, keeps, layers_machine, unit_of_station}
-use Rattle.dna_play.specs.Owed.{can_take}
-use Rattle.dna_play.specs.Played.{end_step}
-use Rattle.dna_station.proofs.Cut.Arriving.{arrival_refusal_same}
-use Rattle.dna_station.proofs.Bounds.Numbers.{is_data}
+use Rattle.dna_play.proofs.Prelude.{◌≡◌, ℕ, ◌+◌, ◌≤◌, Bool, true, false, cond, Some, None, option_map, List, Result, Ok, refl, ap, ◌∙◌, le-ltb}
+use Rattle.dna_play.proofs.Prelude.{eq-eqb, sym, slice_get, bytes_eq, and_parts, slice_get-map, bytes_eq-Decides, Made, stepped, advance}
+use Rattle.dna_play.proofs.Prelude.{MessageValue, reading, NspValue, DataSegment, LinkService, DataAck, OtherDataAck, ConnectInitiate}
+use Rattle.dna_play.proofs.Prelude.{ConnectConfirm, DisconnectInitiate, DisconnectConfirm, Fate, NotKept, is_kept, is_met, Received, Without}
+use Rattle.dna_play.proofs.Prelude.{LinkTest, LiveTo, TheLink, CallingAt, ActedOn, LinkRefusal, StepRefusal, row, Sound, has_packet, num_of}
+use Rattle.dna_play.proofs.Prelude.{arrival_refusal, after_arrival, IsWithin, unlabelled, StationVariables, wire_is_next, wire_arrival_refusal}
+use Rattle.dna_play.proofs.Prelude.{coming_by, comes, LinkOf, LinkTruth, with_link, of_anyone, message_arrived, TrueSegments, Numbers}
+use Rattle.dna_play.proofs.Prelude.{true_segments, Links, links_arrived, SentMessage, by_bytes, judged, PeriodRule, cut, looked, Layers, LayersNode}
+use Rattle.dna_play.proofs.Prelude.{LayersUnit, keeps, layers_machine, unit_of_station, can_take, end_step, arrival_refusal_same, is_data}
+use Rattle.dna_play.proofs.Prelude.{row_is_data, meets_it}
+use Rattle.dna_play.proofs.{Played.Facts.Facts, Stored.Segments.left_half, Ends.TrueEnd.End, Ends.TrueEnd.variables_of}
 use Rattle.dna_play.proofs.Ends.DamagedUnits.{ShownDamage, OfHeader, OfData, read_of, arrival_of}
-use Rattle.dna_node.proofs.Once.Checked.{row_is_data, meets_it}
 
 -- a packet that can be taken is of data
 pub taken_is_data : {L : Type 0} (k : StationVariables L) (m : MessageValue) → can_take k m ≡ true → is_data m ≡ true

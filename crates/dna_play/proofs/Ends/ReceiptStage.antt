@@ -1,13 +1,7 @@
 -- What holds of an end of the player that takes what comes: the DC for a DI names a link that is over.
-use Rattle.std.proofs.Common.{arith, ap}
-use Rattle.dna_packet.specs.Nsp.{NspValue}
-use Rattle.dna_links.specs.declared.tag.LinkTag.{LinkTag}
-use Rattle.dna_links.specs.Arriving.{of_partner}
-use Rattle.dna_node.proofs.Once.Messages.{IsAddressed, source, target}
-use Rattle.dna_play.proofs.Links.Confirms.{end_done}
-use Rattle.dna_play.proofs.Links.Comes.{EndsHold}
-use Rattle.dna_play.proofs.Ends.TrueEnd.{End, links_of}
-use Rattle.dna_play.proofs.Ends.Stage.{Stage, Known}
+use Rattle.dna_play.proofs.Prelude.{arith, ap, NspValue, LinkTag, of_partner, IsAddressed, source, target}
+use Rattle.dna_play.proofs.{Links.Confirms.end_done, Links.Comes.EndsHold, Ends.TrueEnd.End, Ends.TrueEnd.links_of, Ends.Stage.Stage}
+use Rattle.dna_play.proofs.{Ends.Stage.Known}
 
 module _ (own other : End) (h : Stage own) (theirs : Stage other) (known : Known own other) where
   -- the DC for a DI

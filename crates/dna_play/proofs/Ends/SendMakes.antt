@@ -1,37 +1,13 @@
 -- What an end of the player chooses to send its node makes: a unit that is put together is sent.
-use Rattle.std.proofs.Common.{subst, Option, ◌≡◌, ℕ, ◌<◌, true, false, Some, None, List, [], ◌∷◌, Ok, refl, arith}
-use Rattle.std.specs.List.{AllByRecursion}
-use Rattle.ddcmp_msg.specs.Message.{MessageValue}
-use Rattle.ddcmp_msg.specs.Spelling.{spelling}
-use Rattle.ddcmp_msg.proofs.ReadBack.{reading-spelling}
-use Rattle.capture_record.specs.declared.record.Record.TheVariants.{Sent}
-use Rattle.dna_station.specs.declared.head.Head.{Head}
-use Rattle.dna_station.specs.Book.{body_of}
-use Rattle.dna_station.specs.Station.{Station}
-use Rattle.dna_station.specs.StationBook.{sending_refusal, gives_number}
-use Rattle.dna_station.specs.Cut.{cut}
-use Rattle.dna_station.specs.WireStation.{HeldPacket, StationVariables}
-use Rattle.dna_station.specs.WireNode.{unlabelled}
-use Rattle.dna_links.specs.declared.queue.Queues.TheVariants.{Without}
-use Rattle.dna_links.specs.Links.{Carried}
+use Rattle.dna_play.proofs.Prelude.{subst, Option, ◌≡◌, ℕ, ◌<◌, true, false, Some, None, List, [], ◌∷◌, Ok, refl, arith, AllByRecursion}
+use Rattle.dna_play.proofs.Prelude.{MessageValue, spelling, reading-spelling, Sent, Head, body_of, Station, sending_refusal, gives_number, cut}
+use Rattle.dna_play.proofs.Prelude.{HeldPacket, StationVariables, unlabelled, Without, Carried, TrueSegments, Numbers, links_sent}
+use Rattle.dna_play.proofs.Prelude.{by_bytes, content, Layers, LayersTruth, first_sent, sends_again, layers_machine, LinkEnd, Choice, SendNew}
+use Rattle.dna_play.proofs.Prelude.{data_with, message_of, end_step, makes, sent_by, sent_with, IfSome, NspValue, LinkChoice, link_message}
+use Rattle.dna_play.proofs.Prelude.{packet_with}
 use Rattle.dna_links.specs.Sending as links_sending
-use Rattle.dna_links.specs.Sending.{message_sent}
-use Rattle.dna_links.specs.TrueSegments.{TrueSegments, Numbers}
-use Rattle.dna_links.specs.TrueLinks.{links_sent}
-use Rattle.dna_node.specs.TagRules.{by_bytes}
-use Rattle.dna_node.specs.Content.{content}
-use Rattle.dna_node.specs.Layers.{Layers, LayersTruth, first_sent, sends_again, layers_machine}
-use Rattle.dna_play.specs.NextSent.{LinkEnd, Choice, SendNew}
-use Rattle.dna_play.specs.Compose.{data_with, message_of}
-use Rattle.dna_play.specs.Played.{end_step, makes}
-use Rattle.dna_node.proofs.OnTop.{sent_by, sent_with}
-use Rattle.dna_play.proofs.EachElement.{left_all, there}
-use Rattle.dna_play.proofs.Played.Steps.{PlayHalf}
+use Rattle.dna_play.proofs.{EachElement.left_all, EachElement.there, Played.Steps.PlayHalf}
 use Rattle.dna_play.proofs.Ends.UnitLines.{IsOfBytes, PacketFits, NspFits, packet_fits, unit_line}
-use Rattle.std.specs.Option.{IfSome}
-use Rattle.dna_packet.specs.Nsp.{NspValue}
-use Rattle.dna_play.specs.NextSent.{LinkChoice, SendNew}
-use Rattle.dna_play.specs.Compose.{link_message, packet_with}
 use Rattle.dna_play.proofs.Ends.StationPays.{IsPut, PutAgain, PutNew, put_is}
 
 module _ (own : PlayHalf) where

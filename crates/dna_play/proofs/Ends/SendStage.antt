@@ -1,30 +1,13 @@
 -- That an end of the player sends what it has chosen keeps what holds of it.
-use Rattle.std.proofs.Common.{◌≡◌, ℕ, ◌∙◌, Option, Some, Ok, ap, refl, subst}
-use Rattle.std.proofs.lemmas.Option.{same_Some}
-use Rattle.ddcmp_msg.specs.Message.{MessageValue}
-use Rattle.dna_packet.specs.Nsp.{NspValue}
-use Rattle.dna_links.specs.declared.queue.Queues.TheVariants.{Without}
-use Rattle.dna_links.specs.Links.{Carried}
+use Rattle.dna_play.proofs.Prelude.{◌≡◌, ℕ, ◌∙◌, Option, Some, Ok, ap, refl, subst, same_Some, MessageValue, NspValue, Without, Carried}
+use Rattle.dna_play.proofs.Prelude.{TrueSegments, Numbers, links_sent, SentMessage, LinkChoice, Choice, SendNew, after_choice, message_of}
+use Rattle.dna_play.proofs.Prelude.{StoredLinks, after_sent, all_pushed, checked, WrongNode}
 use Rattle.dna_links.specs.Sending as links_sending
-use Rattle.dna_links.specs.TrueSegments.{TrueSegments, Numbers}
-use Rattle.dna_links.specs.TrueLinks.{links_sent}
-use Rattle.dna_links.specs.Runs.{SentMessage}
-use Rattle.dna_play.specs.NextSent.{LinkChoice, Choice, SendNew, after_choice}
-use Rattle.dna_play.specs.Compose.{message_of}
-use Rattle.dna_play.specs.StoredEnd.{StoredLinks}
-use Rattle.dna_play.specs.StoredLinks.{after_sent}
-use Rattle.dna_links.proofs.Runs.Sides.{all_pushed}
-use Rattle.dna_links.proofs.Tables.Outcomes.{checked}
-use Rattle.dna_station.specs.declared.link_refusal.LinkRefusal.TheVariants.{WrongNode}
-use Rattle.dna_play.proofs.Played.Steps.{PlayHalf}
+use Rattle.dna_play.proofs.{Played.Steps.PlayHalf, Links.Fits.IsPlain, Links.Fits.duty_plain, Links.Keeps.is_kept, Links.Sent.sent_holds}
+use Rattle.dna_play.proofs.{Ends.UnitLines.IsOfBytes, Ends.StationStage.sent_stage, Ends.StationStage.sent_packets}
 use Rattle.dna_play.proofs.Links.Choices.{IsAsked, OfDuty, OfConfirm}
-use Rattle.dna_play.proofs.Links.Fits.{IsPlain, duty_plain}
-use Rattle.dna_play.proofs.Links.Keeps.{is_kept}
-use Rattle.dna_play.proofs.Links.Sent.{sent_holds}
 use Rattle.dna_play.proofs.Ends.TrueEnd.{End, variables_of, station_of, links_of, after_record}
-use Rattle.dna_play.proofs.Ends.UnitLines.{IsOfBytes}
 use Rattle.dna_play.proofs.Ends.SendMakes.{sent_left, again_after, first_after}
-use Rattle.dna_play.proofs.Ends.StationStage.{sent_stage, sent_packets}
 use Rattle.dna_play.proofs.Ends.Stage.{Stage, Known, station_stage}
 
 -- the end after what it sends by this choice, with these links

@@ -1,40 +1,16 @@
 -- What holds of an end of the player at any time of a script, with what is known of both in a run that is checked: all that it chooses it may
 -- send; and that it is kept by what its user does and by its timers.
-use Rattle.std.proofs.Common.{◌≡◌, ℕ, ◌<◌, ◌≤◌, ◌^◌, Option, Some, List, subst, arith}
-use Rattle.std.specs.Option.{IfSome}
-use Rattle.std.specs.Prelude.{slice_get}
-use Rattle.two_nodes.specs.Nodes.{stepped}
-use Rattle.two_nodes.specs.Cutting.{cut_half}
-use Rattle.capture_record.specs.declared.limit.TheConstants.{MAX_LINK}
-use Rattle.dna_station.specs.declared.head.Head.{Head}
-use Rattle.dna_station.specs.declared.state.State.TheVariants.{Halted}
-use Rattle.dna_station.specs.declared.state.StationEvent.{StationEvent}
+use Rattle.dna_play.proofs.Prelude.{◌≡◌, ℕ, ◌<◌, ◌≤◌, ◌^◌, Option, Some, List, subst, arith, IfSome, slice_get, stepped, cut_half, MAX_LINK, Head}
+use Rattle.dna_play.proofs.Prelude.{Halted, StationEvent, Station, after_event, Phase, Calling, Confirming, Running, Disconnecting, LinkOf}
+use Rattle.dna_play.proofs.Prelude.{TrueSegments, Links, IsOrdered, IsAnswered, SentMessage, stations, LayersUnit, Debt, timer_debt, OwesStrt, Owed}
+use Rattle.dna_play.proofs.Prelude.{LinkOwed, InitiateDuty, ConfirmDuty, DisconnectDuty, retried, StoredLinks, LinkList, AreAddressed, IsReady}
 use Rattle.dna_station.specs.declared.state.StationEvent.TheVariants as events
 use Rattle.dna_station.specs.Bounds as bounds
-use Rattle.dna_station.specs.Station.{Station, after_event}
-use Rattle.dna_links.specs.declared.port.Phase.{Phase}
-use Rattle.dna_links.specs.declared.port.Phase.TheVariants.{Calling, Confirming, Running, Disconnecting}
-use Rattle.dna_links.specs.Links.{LinkOf}
-use Rattle.dna_links.specs.TrueSegments.{TrueSegments}
-use Rattle.dna_links.specs.TrueLinks.{Links}
-use Rattle.dna_links.specs.CutSegments.{IsOrdered, IsAnswered}
-use Rattle.dna_links.specs.Runs.{SentMessage}
-use Rattle.dna_node.specs.Layers.{stations, LayersUnit}
-use Rattle.dna_play.specs.Owed.{Debt, timer_debt, OwesStrt, Owed}
-use Rattle.dna_play.specs.LinkOwed.{LinkOwed, InitiateDuty, ConfirmDuty, DisconnectDuty, retried}
-use Rattle.dna_play.specs.StoredEnd.{StoredLinks}
-use Rattle.dna_play.proofs.Played.Steps.{PlayHalf}
-use Rattle.dna_node.proofs.Once.Addresses.{LinkList, AreAddressed}
-use Rattle.dna_node.proofs.Once.Checked.{IsReady}
-use Rattle.dna_play.proofs.Links.Pays.{OwedFits}
-use Rattle.dna_play.proofs.Links.Fits.{IsPlain}
-use Rattle.dna_play.proofs.Links.Owing.{duty_fits, ahead_owes}
-use Rattle.dna_play.proofs.Links.Keeps.{NoLink}
-use Rattle.dna_play.proofs.Links.Stage.{LinkHolds}
+use Rattle.dna_play.proofs.{Played.Steps.PlayHalf, Links.Pays.OwedFits, Links.Fits.IsPlain, Links.Owing.duty_fits, Links.Owing.ahead_owes}
+use Rattle.dna_play.proofs.{Links.Keeps.NoLink, Links.Stage.LinkHolds, Ends.SendMakes.PacketsFit, Ends.StationStage.StationPays}
+use Rattle.dna_play.proofs.{Ends.StationStage.cut_of}
 use Rattle.dna_play.proofs.Ends.TrueEnd.{End, new_end, variables_of, station_of, links_of, after_record, owing_more, passing}
 use Rattle.dna_play.proofs.Ends.OwedPays.{timer_pays, none_owed, debt_pays}
-use Rattle.dna_play.proofs.Ends.SendMakes.{PacketsFit}
-use Rattle.dna_play.proofs.Ends.StationStage.{StationPays, cut_of}
 use Rattle.dna_play.proofs.Ends.StationOwes.{start_pays, halt_pays, same_pays}
 
 pub record Stage (e : End) : Type 0 where

@@ -1,28 +1,14 @@
 -- What a station of the player owes stays payable, whatever its user does, whatever it sends of what is owed, and whatever comes.
-use Rattle.std.proofs.Common.{◌≡◌, ℕ, ◌+◌, Bool, true, false, ◌&&◌, not, cond, eqb, nat_lt, nat_le, Option, Some, List, [], ◌∷◌, length, fold, refl}
-use Rattle.std.proofs.Common.{sym, ap, ◌∙◌}
-use Rattle.std.proofs.lemmas.Bool.{and_parts}
-use Rattle.ddcmp_msg.specs.Message.{MessageValue, Data, Nak, Rep, Strt}
-use Rattle.ddcmp_msg.specs.declared.flags.Flags.{Flags}
-use Rattle.ddcmp_msg.specs.declared.nak_reason.NakReason.{NakReason}
-use Rattle.ddcmp_msg.specs.declared.nak_reason.NakReason.TheVariants.{RepResponse, NoBuffer}
-use Rattle.dna_station.specs.declared.head.Head.{Head}
-use Rattle.dna_station.specs.declared.state.State.{State}
-use Rattle.dna_station.specs.declared.state.State.TheVariants.{Halted, Istrt, Astrt, Running}
+use Rattle.dna_play.proofs.Prelude.{◌≡◌, ℕ, ◌+◌, Bool, true, false, ◌&&◌, not, cond, eqb, nat_lt, nat_le, Option, Some, List, [], ◌∷◌, length, fold}
+use Rattle.dna_play.proofs.Prelude.{refl, sym, ap, ◌∙◌, and_parts, MessageValue, Data, Nak, Rep, Strt, Flags, NakReason, RepResponse, NoBuffer}
+use Rattle.dna_play.proofs.Prelude.{Head, State, Halted, Istrt, Astrt, Tag, Causes, with_cause, has_cause, Effect, Respond, TakePacket, AnswerRep}
+use Rattle.dna_play.proofs.Prelude.{row, counts_damage, Sound, num_of, resp_of, has_packet, wire, StationVariables, WireStation, wire_after_event}
+use Rattle.dna_play.proofs.Prelude.{acknowledges, wire_acknowledged_by, wire_responded, wire_is_next, wire_does, wire_book, wire_after_sending}
+use Rattle.dna_play.proofs.Prelude.{wire_after_arrival, Owed, Debt, OwesNak, with_debt, data_debt, rep_debt, damage_debt, same_state, can_take}
+use Rattle.dna_play.proofs.Prelude.{message_debt, still_owed, LinkEnd, Choice, SendNak, after_choice, no_flags, packet_with, message_of}
+use Rattle.dna_play.proofs.Prelude.{kept_by_all}
+use Rattle.dna_station.specs.declared.state.State.TheVariants.{Running}
 use Rattle.dna_station.specs.declared.state.StationEvent.TheVariants as events
-use Rattle.dna_station.specs.declared.tag.Tag.{Tag}
-use Rattle.dna_station.specs.NakCauses.{Causes, with_cause, has_cause}
-use Rattle.dna_station.specs.Table.{Effect, Respond, TakePacket, AnswerRep, row, counts_damage}
-use Rattle.dna_station.specs.Book.{Sound, num_of, resp_of, has_packet}
-use Rattle.dna_station.specs.Station.{wire}
-use Rattle.dna_station.specs.WireStation.{StationVariables, WireStation, wire_after_event}
-use Rattle.dna_station.specs.WireBook.{acknowledges, wire_acknowledged_by, wire_responded, wire_is_next, wire_does, wire_book, wire_after_sending}
-use Rattle.dna_station.specs.WireBook.{wire_after_arrival}
-use Rattle.dna_play.specs.Owed.{Owed, Debt, OwesNak, with_debt, data_debt, rep_debt, damage_debt, same_state, can_take, message_debt}
-use Rattle.dna_play.specs.Owed.{still_owed}
-use Rattle.dna_play.specs.NextSent.{LinkEnd, Choice, SendNak, after_choice}
-use Rattle.dna_play.specs.Compose.{no_flags, packet_with, message_of}
-use Rattle.dna_station.proofs.Steps.Effects.{kept_by_all}
 use Rattle.dna_play.proofs.Ends.StationPays.{IsPayable, IsPut, PutStrt, PutStack, PutNak, PutRep, PutAgain, PutNew, PutAck, put_is}
 use Rattle.dna_play.proofs.Ends.OwedPays.{StayOpen, one_more, now_open, used_up, rep_aside, still, lessened, CanPay, debt_pays}
 

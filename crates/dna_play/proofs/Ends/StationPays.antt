@@ -1,26 +1,13 @@
 -- What an end of the player chooses to send as a station it may send: each NAK that it owes has an open cause, and it owes a REP only while a
 -- packet is outstanding.
-use Rattle.std.proofs.Common.{◌≡◌, ◌+◌, Bool, true, false, cond, nat_lt, Option, Some, None, List, length, refl, subst, eq-eqb}
-use Rattle.std.specs.Prelude.{slice_get}
-use Rattle.std.specs.Option.{IfSome}
-use Rattle.std.proofs.lemmas.Slice.Eq.{bytes_eq-Decides}
-use Rattle.ddcmp_msg.specs.Message.{MessageValue, Ack, Nak, Rep, Strt, Stack}
-use Rattle.ddcmp_msg.specs.declared.nak_reason.NakReason.{NakReason}
-use Rattle.ddcmp_msg.specs.declared.nak_reason.NakReason.TheVariants.{HeaderCheck, DataCheck, RepResponse, NoBuffer}
-use Rattle.dna_packet.specs.Nsp.{NspValue}
-use Rattle.dna_station.specs.declared.head.Head.{Head}
-use Rattle.dna_station.specs.declared.state.State.{State}
-use Rattle.dna_station.specs.declared.state.State.TheVariants.{Halted, Istrt, Astrt, Running}
-use Rattle.dna_station.specs.NakCauses.{Causes, has_cause}
-use Rattle.dna_station.specs.Table.{WINDOW, checks}
-use Rattle.dna_station.specs.Book.{failed}
-use Rattle.dna_station.specs.Station.{wire}
-use Rattle.dna_station.specs.WireStation.{HeldPacket, StationVariables, WireStation}
-use Rattle.dna_station.specs.WireBook.{wire_is_new, wire_passes, wire_sending_refusal}
-use Rattle.dna_play.specs.Owed.{Owed, all_acknowledged}
-use Rattle.dna_play.specs.NextSent.{LinkEnd, LinkChoice, Choice, SendStrt, SendStack, SendNak, SendRep, SendAgain, SendNew, SendAck, when, or_else}
-use Rattle.dna_play.specs.NextSent.{lowest_nak, new_packet, data_choice, choice_in, choice}
-use Rattle.dna_play.specs.Compose.{no_flags, data_with, packet_again, new_data, link_message, message_of, packet_with, start_flags}
+use Rattle.dna_play.proofs.Prelude.{◌≡◌, ◌+◌, Bool, true, false, cond, nat_lt, Option, Some, None, List, length, refl, subst, eq-eqb, slice_get}
+use Rattle.dna_play.proofs.Prelude.{IfSome, bytes_eq-Decides, MessageValue, Ack, Nak, Rep, Strt, Stack, NakReason, HeaderCheck, DataCheck}
+use Rattle.dna_play.proofs.Prelude.{RepResponse, NoBuffer, NspValue, Head, State, Halted, Istrt, Astrt, Causes, has_cause, WINDOW, checks, failed}
+use Rattle.dna_play.proofs.Prelude.{wire, HeldPacket, StationVariables, WireStation, wire_is_new, wire_passes, wire_sending_refusal, Owed}
+use Rattle.dna_play.proofs.Prelude.{all_acknowledged, LinkEnd, LinkChoice, Choice, SendStrt, SendStack, SendNak, SendRep, SendAgain, SendNew}
+use Rattle.dna_play.proofs.Prelude.{SendAck, when, or_else, lowest_nak, new_packet, data_choice, choice_in, choice, no_flags, data_with}
+use Rattle.dna_play.proofs.Prelude.{packet_again, new_data, link_message, message_of, packet_with, start_flags}
+use Rattle.dna_station.specs.declared.state.State.TheVariants.{Running}
 
 -- whether a NAK of this reason is owed
 abbrev pub owes_nak : NakReason → Owed → Bool

@@ -1,35 +1,18 @@
 -- What holds of an end of the player as a station, on true numbers, is kept by each thing that happens: what it owes can be paid, and its packets
 -- fit.
-use Rattle.std.proofs.Common.{◌≡◌, ℕ, Bool, true, false, Some, List, [], ◌∷◌, sym, ap, ◌∙◌, subst}
-use Rattle.std.specs.List.{AllByRecursion}
-use Rattle.ddcmp_msg.specs.Message.{MessageValue, Data}
-use Rattle.dna_station.specs.declared.head.Head.{Head}
-use Rattle.dna_station.specs.Table.{change_of}
-use Rattle.dna_station.specs.Bounds.{IsOrdered, IsWithin}
-use Rattle.dna_station.specs.Book.{ArrivalValue, Sound, HeaderBad, DataBad}
-use Rattle.dna_station.specs.declared.tag.Tag.{Tag}
-use Rattle.ddcmp_msg.specs.Reading.{ReadingValue}
+use Rattle.dna_play.proofs.Prelude.{◌≡◌, ℕ, Bool, true, false, Some, List, [], ◌∷◌, sym, ap, ◌∙◌, subst, AllByRecursion, MessageValue, Data, Head}
+use Rattle.dna_play.proofs.Prelude.{change_of, IsWithin, ArrivalValue, Sound, Tag, ReadingValue, HeaderCheck, DataCheck, Station, Truth}
+use Rattle.dna_play.proofs.Prelude.{with_packet, is_new, after_sending, after_arrival, AreLabelled, cut, HeldPacket, WireStation}
+use Rattle.dna_play.proofs.Prelude.{wire_after_sending, wire_after_arrival, unlabelled, Owed, still_owed, with_debt, arrival_debt, LinkEnd, Choice}
+use Rattle.dna_play.proofs.Prelude.{after_choice, message_of, sending_same, arrival_same, header_same, data_bad_same, arrival_packets}
+use Rattle.dna_play.proofs.Prelude.{unlabelled_bodies, sending_unlabelled}
+use Rattle.dna_station.specs.Bounds.{IsOrdered}
+use Rattle.dna_station.specs.Book.{HeaderBad, DataBad}
 use Rattle.ddcmp_msg.specs.Reading as read_as
-use Rattle.ddcmp_msg.specs.declared.nak_reason.NakReason.TheVariants.{HeaderCheck, DataCheck}
-use Rattle.dna_station.specs.Station.{Station}
-use Rattle.dna_station.specs.Truth.{Truth}
-use Rattle.dna_station.specs.StationBook.{with_packet, is_new, after_sending, after_arrival}
-use Rattle.dna_station.specs.Cut.{AreLabelled, cut}
-use Rattle.dna_station.specs.WireStation.{HeldPacket, WireStation}
-use Rattle.dna_station.specs.WireBook.{wire_after_sending, wire_after_arrival}
-use Rattle.dna_station.specs.WireNode.{unlabelled}
-use Rattle.dna_play.specs.Owed.{Owed, still_owed, with_debt, arrival_debt}
-use Rattle.dna_play.specs.NextSent.{LinkEnd, Choice, after_choice}
-use Rattle.dna_play.specs.Compose.{message_of}
-use Rattle.dna_station.proofs.Cut.Sending.{sending_same}
-use Rattle.dna_station.proofs.Cut.Arriving.{arrival_same, header_same, data_bad_same}
-use Rattle.dna_station.proofs.Cut.Node.{arrival_packets, unlabelled_bodies, sending_unlabelled}
-use Rattle.dna_play.proofs.EachElement.{more_all}
+use Rattle.dna_play.proofs.{EachElement.more_all, Ends.StationPays.IsPayable, Ends.UnitLines.PacketFits, Ends.UnitLines.IsOfBytes}
+use Rattle.dna_play.proofs.{Ends.SendMakes.PacketsFit}
 use Rattle.dna_play.proofs.Ends.DamagedUnits.{ShownDamage, OfHeader, OfData, read_of, arrival_of}
-use Rattle.dna_play.proofs.Ends.StationPays.{IsPayable}
 use Rattle.dna_play.proofs.Ends.StationOwes.{choice_pays, sound_pays, damaged_pays}
-use Rattle.dna_play.proofs.Ends.UnitLines.{PacketFits, IsOfBytes}
-use Rattle.dna_play.proofs.Ends.SendMakes.{PacketsFit}
 
 abbrev pub cut_of : Station → WireStation (Unit {0})
 cut_of s = cut (unlabelled s.packets) s

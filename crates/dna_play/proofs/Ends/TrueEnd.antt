@@ -1,16 +1,7 @@
 -- An end with its node beside it, as the proofs see it: the station variables that it keeps are read off the node, and so is its head.
-use Rattle.std.specs.Prelude.{ℕ, ◌+◌, Option, List, [], map, drop}
-use Rattle.two_nodes.specs.Nodes.{Half}
-use Rattle.dna_station.specs.declared.head.Head.{Head}
-use Rattle.dna_station.specs.Station.{Station}
-use Rattle.dna_station.specs.Cut.{cut}
-use Rattle.dna_station.specs.WireStation.{StationVariables}
-use Rattle.dna_station.specs.WireNode.{unlabelled}
-use Rattle.dna_links.specs.TrueLinks.{Links}
-use Rattle.dna_node.specs.Layers.{LayersNode, LayersUnit, new_layers_node}
-use Rattle.dna_play.specs.Owed.{Owed, Debt, can_take, still_owed}
+use Rattle.dna_play.proofs.Prelude.{ℕ, ◌+◌, Option, List, [], map, drop, Half, Head, Station, cut, StationVariables, unlabelled, Links, LayersNode}
+use Rattle.dna_play.proofs.Prelude.{LayersUnit, new_layers_node, Owed, Debt, still_owed, StoredEnd, StoredLinks, no_stored_links}
 use Rattle.dna_play.specs.Owed as owing
-use Rattle.dna_play.specs.StoredEnd.{StoredEnd, StoredLinks, no_stored_links}
 
 pub record End : Type 0 where
   -- its node, and all units that it ever sent

@@ -1,30 +1,14 @@
 -- The units of an end of the player have lines, and its packets are read as they were put together.
-use Rattle.std.proofs.Common.{◌≡◌, ℕ, ◌+◌, ◌/◌, ◌%◌, ◌^◌, ◌<◌, ◌≤◌, Bool, true, false, ◌&&◌, Some, List, [], ◌∷◌, ◌++◌, length, Ok, refl, ap, ap₂}
-use Rattle.std.proofs.Common.{◌∙◌, arith, le-leb, lt-ltb, length-append}
-use Rattle.std.specs.Prelude.{slice_get}
-use Rattle.wire_base.specs.BlockCheck.{check_of, check_bytes}
-use Rattle.wire_base.proofs.BlockCheck.{check_of_lt}
-use Rattle.ddcmp_msg.specs.declared.flags.Flags.{Flags}
-use Rattle.ddcmp_msg.specs.declared.nak_reason.NakReason.{NakReason}
-use Rattle.ddcmp_msg.specs.declared.nak_reason.NakReason.TheVariants.{HeaderCheck}
-use Rattle.ddcmp_msg.specs.Message.{MessageValue, Data, Ack, Nak, Rep, Strt, Stack, IsInRange, bit, flags_byte, reason_number}
-use Rattle.ddcmp_msg.specs.Spelling.{SOH, ENQ, ADDRESS, control, header, with_check, rest_of, spelling}
-use Rattle.dna_packet.specs.Fields.{word}
-use Rattle.dna_packet.specs.AckWord.{ack_word}
+use Rattle.dna_play.proofs.Prelude.{◌≡◌, ℕ, ◌+◌, ◌/◌, ◌%◌, ◌^◌, ◌<◌, ◌≤◌, Bool, true, false, ◌&&◌, Some, List, [], ◌∷◌, ◌++◌, length, Ok, refl, ap}
+use Rattle.dna_play.proofs.Prelude.{ap₂, ◌∙◌, arith, le-leb, lt-ltb, length-append, slice_get, check_of, check_bytes, check_of_lt, Flags, NakReason}
+use Rattle.dna_play.proofs.Prelude.{HeaderCheck, MessageValue, Data, Ack, Nak, Rep, Strt, Stack, IsInRange, bit, flags_byte, reason_number, SOH}
+use Rattle.dna_play.proofs.Prelude.{ENQ, ADDRESS, control, header, with_check, rest_of, spelling, word, ack_word, NspValue, IsNsp, nsp_bytes}
+use Rattle.dna_play.proofs.Prelude.{connect_fields, segment_flag, segnum, ConnectInitiate, DisconnectConfirm, nsp_again, Sent, MAX_UNIT, Head}
+use Rattle.dna_play.proofs.Prelude.{resp_of, num_of, body_of, message_in, content_of, content, are_bytes, has_line, Duty, ConnectAckDuty}
+use Rattle.dna_play.proofs.Prelude.{InitiateDuty, ConfirmDuty, DisconnectDuty, DataAckDuty, SegmentDuty, LinkEnd, SERVICES, INFO, USER_DATA}
+use Rattle.dna_play.proofs.Prelude.{address, packet_with, piece_to_send, segment_with, ack_of, duty_message, Piece, SEGSIZE}
 use Rattle.dna_packet.specs.Packet as packets
-use Rattle.dna_packet.specs.Nsp.{NspValue, IsNsp, nsp_bytes, connect_fields, segment_flag, segnum, ConnectInitiate, DisconnectConfirm}
 use Rattle.dna_packet.proofs.PacketLemmas.{packet_again}
-use Rattle.dna_packet.proofs.NspAgain.{nsp_again}
-use Rattle.capture_record.specs.declared.record.Record.TheVariants.{Sent}
-use Rattle.capture_record.specs.declared.limit.TheConstants.{MAX_UNIT}
-use Rattle.dna_station.specs.declared.head.Head.{Head}
-use Rattle.dna_station.specs.Book.{resp_of, num_of, body_of}
-use Rattle.dna_node.specs.Content.{message_in, content_of, content}
-use Rattle.dna_play.specs.HasLine.{are_bytes, has_line}
-use Rattle.dna_play.specs.LinkOwed.{Duty, ConnectAckDuty, InitiateDuty, ConfirmDuty, DisconnectDuty, DataAckDuty, SegmentDuty}
-use Rattle.dna_play.specs.NextSent.{LinkEnd}
-use Rattle.dna_play.specs.Compose.{SERVICES, INFO, USER_DATA, address, packet_with, piece_to_send, segment_with, ack_of, duty_message}
-use Rattle.dna_links.specs.Segmentation.{Piece, SEGSIZE}
 use Rattle.dna_play.proofs.Bytes.{HasBytes, addressed, bytes_told, front, joined_bytes, word_bytes}
 use Rattle.dna_play.proofs.Links.Fits.{PieceFits}
 

@@ -1,24 +1,10 @@
 -- What a receipt makes whole the user gets at once: each delivery that follows it is made.
-use Rattle.std.proofs.Common.{◌≡◌, ℕ, ◌+◌, Bool, true, false, cond, Option, Some, None, List, [], ◌∷◌, ◌++◌, drop, refl, sym, ap, ◌∙◌, append_assoc}
-use Rattle.std.proofs.Common.{ap₂}
-use Rattle.std.proofs.Math.Numerals.{suc-eq-add-one}
-use Rattle.std.proofs.lemmas.List.{drop-drop}
-use Rattle.std.proofs.lemmas.Slice.Eq.{bytes_eq-Decides}
-use Rattle.dna_packet.specs.Nsp.{NspValue, DataSegment}
+use Rattle.dna_play.proofs.Prelude.{◌≡◌, ℕ, ◌+◌, Bool, true, false, cond, Option, Some, None, List, [], ◌∷◌, ◌++◌, drop, refl, sym, ap, ◌∙◌}
+use Rattle.dna_play.proofs.Prelude.{append_assoc, ap₂, suc-eq-add-one, drop-drop, bytes_eq-Decides, NspValue, DataSegment, User, ActedOn, Piece}
+use Rattle.dna_play.proofs.Prelude.{Whole, with_piece, next_message, LinkOf, TrueSegments, delivers, Links, in_whole_messages, Splits, splits}
+use Rattle.dna_play.proofs.Prelude.{has_line, complete, IsFound, LinkList, OwnsIn}
 use Rattle.capture_record.specs.declared.event.Event.TheVariants as events
-use Rattle.capture_record.specs.declared.record.Record.TheVariants.{User}
-use Rattle.dna_links.specs.declared.port.LinkTest.TheVariants.{ActedOn}
-use Rattle.dna_links.specs.Segmentation.{Piece, Whole, with_piece, next_message}
-use Rattle.dna_links.specs.Links.{LinkOf}
-use Rattle.dna_links.specs.TrueSegments.{TrueSegments, delivers}
-use Rattle.dna_links.specs.TrueLinks.{Links}
-use Rattle.dna_links.specs.Segmentation.{in_whole_messages}
-use Rattle.dna_links.proofs.Cut.Ended.{Splits, splits}
-use Rattle.dna_play.specs.HasLine.{has_line}
 use Rattle.dna_play.proofs.Links.Pays as owing
-use Rattle.dna_play.specs.Receipt.{complete}
-use Rattle.dna_links.proofs.Tables.Outcomes.{IsFound}
-use Rattle.dna_node.proofs.Once.Addresses.{LinkList, OwnsIn}
 use Rattle.dna_play.proofs.Links.Pays.{found_at, with_found}
 
 -- ---- the first message that is whole is the next one, and the others are whole behind it

@@ -1,19 +1,10 @@
 -- What the links of an end of the player choose next is due, and its message is there to be put together.
-use Rattle.std.proofs.Common.{◌≡◌, ℕ, suc, ◌+◌, Option, Some, None, List, [], ◌∷◌, refl, sym, ap, ◌∙◌, subst, arith}
-use Rattle.std.specs.Prelude.{slice_get}
-use Rattle.std.proofs.lemmas.Option.{same_Some}
-use Rattle.dna_packet.specs.Nsp.{NspValue, DisconnectConfirm}
-use Rattle.dna_links.specs.Links.{LinkOf}
-use Rattle.dna_links.specs.TrueSegments.{TrueSegments}
-use Rattle.dna_links.specs.TrueLinks.{Links}
-use Rattle.dna_play.specs.LinkOwed.{LinkOwed, EndConfirm, Duty}
-use Rattle.dna_play.specs.NextSent.{LinkEnd, LinkChoice, Confirms, OfLink, duty_of, duty_or_next, first_duty, link_choice}
-use Rattle.dna_play.specs.Compose.{duty_message, message_at, link_message}
-use Rattle.dna_play.specs.StoredEnd.{StoredLinks}
-use Rattle.dna_node.proofs.Once.Addresses.{LinkList}
+use Rattle.dna_play.proofs.Prelude.{◌≡◌, ℕ, suc, ◌+◌, Option, Some, None, List, [], ◌∷◌, refl, sym, ap, ◌∙◌, subst, arith, slice_get, same_Some}
+use Rattle.dna_play.proofs.Prelude.{NspValue, DisconnectConfirm, LinkOf, TrueSegments, Links, LinkOwed, EndConfirm, Duty, LinkEnd, LinkChoice}
+use Rattle.dna_play.proofs.Prelude.{Confirms, OfLink, duty_of, duty_or_next, first_duty, link_choice, duty_message, message_at, link_message}
+use Rattle.dna_play.proofs.Prelude.{StoredLinks, LinkList}
 use Rattle.dna_play.proofs.Links.Pays.{end_of, IsDue, duty_due}
-use Rattle.dna_play.proofs.Links.Keeps.{At, kept_of}
-use Rattle.dna_play.proofs.Links.Stage.{LinkHolds}
+use Rattle.dna_play.proofs.{Links.Keeps.At, Links.Keeps.kept_of, Links.Stage.LinkHolds}
 
 -- it is the duty of the first link that has one
 pub record FirstDuty (ends : List LinkEnd) (from : ℕ) (c : LinkChoice) : Type 0 where

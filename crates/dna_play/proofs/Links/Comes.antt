@@ -1,35 +1,17 @@
 -- What a message that comes, other than a segment, makes of the links of an end of the player is what it makes of those that are kept.
-use Rattle.std.proofs.Common.{◌≡◌, ℕ, ◌<◌, ◌^◌, Bool, true, false, Some, Result, Ok, Err, refl, sym, ap, subst, arith, eq-eqb, List}
-use Rattle.std.specs.Prelude.{slice_get}
-use Rattle.std.proofs.lemmas.Bool.{and_parts}
-use Rattle.dna_packet.specs.Nsp.{NspValue, DataSegment, LinkService, DataAck, OtherDataAck, ConnectAck, NoOperation, ConnectInitiate, ConnectConfirm}
-use Rattle.dna_packet.specs.Nsp.{DisconnectInitiate, DisconnectConfirm}
-use Rattle.dna_station.specs.declared.link_refusal.LinkRefusal.{LinkRefusal}
-use Rattle.dna_station.specs.declared.link_refusal.LinkRefusal.TheVariants.{CrossedLink}
-use Rattle.dna_links.specs.Queues.{ended}
-use Rattle.dna_links.specs.declared.queue.Queues.TheVariants.{Without}
-use Rattle.dna_links.specs.declared.port.Phase.{Phase}
-use Rattle.dna_links.specs.declared.port.Phase.TheVariants.{Called, Confirming, Running}
-use Rattle.dna_links.specs.declared.port.LinkTest.TheVariants.{TheLink, LiveTo, CallingAt, ActedOn}
-use Rattle.dna_links.specs.LookUps.{is_running, is_calling, is_at, is_connected, has_both}
-use Rattle.dna_links.specs.Links.{LinkOf, LinkTruth, check, with_link, begun, changed, in_phase, with_segments}
-use Rattle.dna_links.specs.Arriving.{of_partner, is_for, is_of_pair, message_arrived}
-use Rattle.dna_links.specs.inner.Forms.{called, confirmed, ends_link, ends_by, running, acted_on}
-use Rattle.dna_links.specs.Segmentation.{SEGSIZE}
-use Rattle.dna_links.specs.TrueSegments.{TrueSegments, Numbers, takes_acks, true_segments}
-use Rattle.dna_links.specs.WireSegments.{LinkVariables, WireSegments, acknowledged_by_all}
-use Rattle.dna_links.specs.TrueLinks.{Links}
-use Rattle.dna_links.specs.CutSegments.{cut, IsOrdered}
-use Rattle.dna_links.specs.CutLinks.{ArrivesNear}
-use Rattle.dna_play.specs.LinkOwed.{LinkOwed, ConnectAckDuty, ConfirmDuty, DataAckDuty, nothing, with_duty, same_phase, unless_left}
-use Rattle.dna_play.specs.NextSent.{LinkEnd}
-use Rattle.dna_play.specs.StoredEnd.{StoredLinks}
+use Rattle.dna_play.proofs.Prelude.{◌≡◌, ℕ, ◌<◌, ◌^◌, Bool, true, false, Some, Result, Ok, Err, refl, sym, ap, subst, arith, eq-eqb, List}
+use Rattle.dna_play.proofs.Prelude.{slice_get, and_parts, NspValue, DataSegment, LinkService, DataAck, OtherDataAck, ConnectAck, NoOperation}
+use Rattle.dna_play.proofs.Prelude.{ConnectInitiate, ConnectConfirm, DisconnectInitiate, DisconnectConfirm, LinkRefusal, CrossedLink, ended}
+use Rattle.dna_play.proofs.Prelude.{Without, Phase, Called, Confirming, Running, TheLink, LiveTo, CallingAt, ActedOn, is_running, is_calling, is_at}
+use Rattle.dna_play.proofs.Prelude.{is_connected, has_both, LinkOf, LinkTruth, check, with_link, begun, changed, in_phase, with_segments}
+use Rattle.dna_play.proofs.Prelude.{of_partner, is_for, is_of_pair, message_arrived, confirmed, ends_link, ends_by, running, acted_on, SEGSIZE}
+use Rattle.dna_play.proofs.Prelude.{TrueSegments, Numbers, takes_acks, true_segments, LinkVariables, WireSegments, acknowledged_by_all, Links}
+use Rattle.dna_play.proofs.Prelude.{IsOrdered, ArrivesNear, LinkOwed, ConnectAckDuty, ConfirmDuty, DataAckDuty, nothing, with_duty, same_phase}
+use Rattle.dna_play.proofs.Prelude.{unless_left, LinkEnd, StoredLinks, takes_acks_same, IsFound, ends_ok}
+use Rattle.dna_links.specs.inner.Forms.{called}
+use Rattle.dna_links.specs.CutSegments.{cut}
 use Rattle.dna_play.specs.StoredLinks as keeping
-use Rattle.dna_links.proofs.Cut.SegmentsArriving.{takes_acks_same}
-use Rattle.dna_links.proofs.Tables.Outcomes.{IsFound}
-use Rattle.dna_links.proofs.Tables.Forms.{ends_ok}
-use Rattle.dna_play.proofs.Links.Pays.{end_of, running_is}
-use Rattle.dna_play.proofs.Links.Fits.{IsPlain}
+use Rattle.dna_play.proofs.{Links.Pays.end_of, Links.Pays.running_is, Links.Fits.IsPlain}
 use Rattle.dna_play.proofs.Links.Owing.{duty_fits, nothing_fits, left_fits, still_fits, still_owed}
 use Rattle.dna_play.proofs.Links.Goes.{SegmentsGo, ended_goes, confirmed_goes, runs_on, stays_as_it_is, took_acks}
 use Rattle.dna_play.proofs.Links.Keeps.{At, is_kept, the_link_lives, live_to_lives, calling_at_lives, acted_on_lives, look, look_both}

@@ -1,24 +1,9 @@
 -- A DC that is owed names a link that is over, and stays so.
-use Rattle.std.proofs.Common.{◌≡◌, ℕ, ◌≤◌, Bool, true, false, ◌&&◌, ◌||◌, Option, Some, None, refl, sym, ap, ap₂, ◌∙◌, subst, ◌⊎◌, inl, inr}
-use Rattle.std.specs.Prelude.{slice_get}
-use Rattle.std.proofs.Math.Bool.{and-true, or-true}
-use Rattle.std.proofs.lemmas.Bool.{and_parts}
-use Rattle.dna_links.specs.Queues.{ended}
-use Rattle.dna_links.specs.declared.port.Phase.{Phase}
-use Rattle.dna_links.specs.declared.port.Phase.TheVariants.{Confirming, Running}
-use Rattle.dna_links.specs.declared.port.Port.{Port}
-use Rattle.dna_links.specs.declared.port.LinkTest.TheVariants.{TheLink, CallingAt}
-use Rattle.dna_links.specs.LookUps.{is_live, is_calling, is_connected, is_at, has_both, passes}
-use Rattle.dna_links.specs.Links.{LinkOf, number_of, with_link, changed}
-use Rattle.dna_links.specs.Arriving.{PartnerRule}
-use Rattle.dna_links.specs.inner.Forms.{ends_link}
-use Rattle.dna_links.specs.TrueSegments.{TrueSegments, true_segments}
-use Rattle.dna_links.specs.TrueLinks.{Links}
-use Rattle.dna_play.specs.LinkOwed.{EndConfirm}
-use Rattle.dna_links.proofs.Tables.Outcomes.{looked, position_none}
-use Rattle.dna_links.proofs.Runs.Reads.{at_is}
-use Rattle.dna_links.proofs.Runs.Sides.{at_set}
-use Rattle.dna_node.proofs.Once.Addresses.{LinkList, AreAddressed}
+use Rattle.dna_play.proofs.Prelude.{◌≡◌, ℕ, ◌≤◌, Bool, true, false, ◌&&◌, ◌||◌, Option, Some, None, refl, sym, ap, ap₂, ◌∙◌, subst, ◌⊎◌, inl, inr}
+use Rattle.dna_play.proofs.Prelude.{slice_get, and-true, or-true, and_parts, ended, Phase, Confirming, Running, Port, TheLink, CallingAt, is_live}
+use Rattle.dna_play.proofs.Prelude.{is_calling, is_connected, is_at, has_both, passes, LinkOf, number_of, with_link, changed, PartnerRule}
+use Rattle.dna_play.proofs.Prelude.{ends_link, TrueSegments, true_segments, Links, EndConfirm, looked, position_none, at_is, at_set, LinkList}
+use Rattle.dna_play.proofs.Prelude.{AreAddressed}
 use Rattle.dna_play.proofs.Links.Pays.{is_there}
 
 -- a link with this port might be, or come to be, one that goes with that far address

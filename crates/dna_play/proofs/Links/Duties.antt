@@ -1,38 +1,18 @@
 -- What is due at a link of the player may be sent; and what its message makes of the link that has sent it, as its node keeps it.
-use Rattle.std.proofs.Common.{◌≡◌, ℕ, ◌+◌, ◌≤◌, true, false, ◌&&◌, ◌||◌, not, eqb, nat_lt, Option, Some, None, [], ◌∷◌, length, Result, Ok, Err, refl}
-use Rattle.std.proofs.Common.{sym, ap, ◌∙◌, arith, length-append, le-ltb, ltb-true, eqb-true}
-use Rattle.std.specs.Cmp.Derive.{both_true}
-use Rattle.std.specs.Prelude.{slice_get, is_some}
-use Rattle.two_nodes.proofs.Reached.{slice_get_none}
-use Rattle.std.proofs.lemmas.Bool.{and_parts}
-use Rattle.std.proofs.lemmas.Option.{slice_get_within}
-use Rattle.dna_station.specs.declared.link_refusal.LinkRefusal.{LinkRefusal}
-use Rattle.dna_station.specs.declared.link_refusal.LinkRefusal.TheVariants.{NoLink}
-use Rattle.dna_links.specs.declared.queue.Queues.TheVariants.{Without}
-use Rattle.dna_links.specs.declared.port.Phase.{Phase}
-use Rattle.dna_links.specs.declared.port.Phase.TheVariants.{Calling, Called, Confirming, Running, Disconnecting}
-use Rattle.dna_links.specs.declared.port.LinkTest.TheVariants.{TheLink, OpenedAt, BegunBy}
-use Rattle.dna_links.specs.LookUps.{is_live, is_calling, is_confirming, is_running, is_disconnecting, is_at}
-use Rattle.dna_links.specs.SegmentBook.{Sending, REACH}
-use Rattle.dna_links.specs.Segmentation.{Piece, has_more, next_piece, SEGSIZE}
-use Rattle.dna_links.specs.Links.{LinkOf, changed, with_segments}
-use Rattle.dna_links.specs.Sending.{Sent, message_sent}
-use Rattle.dna_links.specs.inner.Forms.{unchanged, carries, in_run, segment_of}
-use Rattle.dna_links.specs.TrueSegments.{TrueSegments, Numbers, true_segments, sends_segment}
-use Rattle.dna_links.specs.TrueLinks.{Links}
-use Rattle.dna_links.specs.CutSegments.{IsOrdered, IsAnswered}
-use Rattle.dna_play.specs.LinkOwed.{LinkOwed, Duty, ConnectAckDuty, InitiateDuty, ConfirmDuty, DisconnectDuty, DataAckDuty, SegmentDuty}
-use Rattle.dna_play.specs.NextSent.{LinkEnd, has_new, has_repeat}
-use Rattle.dna_play.specs.Compose.{ack_of, address, piece_to_send, segment_with, duty_message}
-use Rattle.dna_play.specs.StoredLinks.{gave, gave_by}
-use Rattle.dna_links.proofs.Tables.Outcomes.{IsFound}
-use Rattle.dna_links.proofs.Runs.Reads.{at_is}
-use Rattle.dna_node.proofs.Once.Addresses.{LinkList, AreAddressed}
-use Rattle.dna_play.proofs.Links.Lists.{set_back}
+use Rattle.dna_play.proofs.Prelude.{◌≡◌, ℕ, ◌+◌, ◌≤◌, true, false, ◌&&◌, ◌||◌, not, eqb, nat_lt, Option, Some, None, [], ◌∷◌, length, Result, Ok}
+use Rattle.dna_play.proofs.Prelude.{Err, refl, sym, ap, ◌∙◌, arith, length-append, le-ltb, ltb-true, eqb-true, both_true, slice_get, is_some}
+use Rattle.dna_play.proofs.Prelude.{slice_get_none, and_parts, slice_get_within, LinkRefusal, NoLink, Without, Phase, Calling, Called, Confirming}
+use Rattle.dna_play.proofs.Prelude.{Running, Disconnecting, TheLink, OpenedAt, BegunBy, is_live, is_calling, is_confirming, is_running}
+use Rattle.dna_play.proofs.Prelude.{is_disconnecting, is_at, Sending, REACH, Piece, has_more, next_piece, SEGSIZE, LinkOf, changed, with_segments}
+use Rattle.dna_play.proofs.Prelude.{message_sent, unchanged, carries, in_run, segment_of, TrueSegments, Numbers, true_segments, sends_segment}
+use Rattle.dna_play.proofs.Prelude.{Links, IsOrdered, IsAnswered, LinkOwed, Duty, ConnectAckDuty, InitiateDuty, ConfirmDuty, DisconnectDuty}
+use Rattle.dna_play.proofs.Prelude.{DataAckDuty, SegmentDuty, LinkEnd, has_new, has_repeat, ack_of, address, piece_to_send, segment_with}
+use Rattle.dna_play.proofs.Prelude.{duty_message, gave, gave_by, IsFound, at_is, LinkList, AreAddressed}
+use Rattle.dna_links.specs.Sending.{Sent}
+use Rattle.dna_play.proofs.{Links.Lists.set_back, Links.Goes.SegmentsGo, Links.Goes.stays_as_it_is}
 use Rattle.dna_play.proofs.Links.Pays.{end_of, fits_in, OwedFits, IsDue, DueFlag, DueSegment, known_at, is_there, running_is, found_at, some_found}
 use Rattle.dna_play.proofs.Links.Pays.{with_found, right_may}
 use Rattle.dna_play.proofs.Links.Fits.{LinkFits, fits_as, next_fits}
-use Rattle.dna_play.proofs.Links.Goes.{SegmentsGo, stays_as_it_is}
 use Rattle.dna_play.proofs.Links.SegmentsPay.{MaySend, data_ack_may, again_may, new_may}
 
 -- this is sent by the link, and makes this of it

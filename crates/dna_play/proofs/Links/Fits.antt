@@ -1,18 +1,9 @@
 -- What a link of the player is: what its phase asks of its addresses and its SEGSIZE, and pieces of bytes that are no longer than a segment may be.
-use Rattle.std.proofs.Common.{◌≡◌, ℕ, Bool, true, false, ◌&&◌, eqb, cond, Option, Some, None, List, [], ◌∷◌, length, drop, refl, subst, arith}
-use Rattle.std.specs.Prelude.{slice_get, is_some}
-use Rattle.std.specs.List.{AllByRecursion}
-use Rattle.std.proofs.lemmas.List.{length-take}
-use Rattle.dna_packet.specs.Nsp.{NspValue, DataSegment, ConnectInitiate, ConnectConfirm}
-use Rattle.dna_links.specs.declared.port.Phase.{Phase}
-use Rattle.dna_links.specs.declared.port.Phase.TheVariants.{Confirming, Running}
-use Rattle.dna_links.specs.LookUps.{is_connected}
-use Rattle.dna_links.specs.Segmentation.{Piece, piece_of, Unsent, left_of, SEGSIZE, piece_with, next_piece_of}
-use Rattle.dna_links.specs.Links.{LinkOf}
-use Rattle.dna_links.specs.TrueSegments.{TrueSegments}
-use Rattle.dna_play.specs.HasLine.{are_bytes}
-use Rattle.dna_play.specs.LinkOwed.{LinkOwed, Duty, ConnectAckDuty, InitiateDuty, ConfirmDuty, DisconnectDuty, DataAckDuty, SegmentDuty}
-use Rattle.dna_play.specs.Compose.{piece_to_send, duty_message}
+use Rattle.dna_play.proofs.Prelude.{◌≡◌, ℕ, Bool, true, false, ◌&&◌, eqb, cond, Option, Some, None, List, [], ◌∷◌, length, drop, refl, subst, arith}
+use Rattle.dna_play.proofs.Prelude.{slice_get, is_some, AllByRecursion, length-take, NspValue, DataSegment, ConnectInitiate, ConnectConfirm, Phase}
+use Rattle.dna_play.proofs.Prelude.{Confirming, Running, is_connected, Piece, piece_of, Unsent, left_of, SEGSIZE, piece_with, next_piece_of, LinkOf}
+use Rattle.dna_play.proofs.Prelude.{TrueSegments, are_bytes, LinkOwed, Duty, ConnectAckDuty, InitiateDuty, ConfirmDuty, DisconnectDuty, DataAckDuty}
+use Rattle.dna_play.proofs.Prelude.{SegmentDuty, piece_to_send, duty_message}
 use Rattle.dna_play.proofs.Bytes.{HasBytes, left, taken}
 use Rattle.dna_play.proofs.EachElement.{left_all, there}
 use Rattle.dna_play.proofs.Links.Pays.{fits_in, Fits, variables_of}

@@ -1,31 +1,13 @@
 -- What may become of one link of an end of the player, by its user, by what it sends and by what comes: it fits still, its numbers go on, and where
 -- it is none that a DC names it is none still.
-use Rattle.std.proofs.Common.{◌≡◌, ℕ, ◌<◌, ◌≤◌, Bool, true, false, ◌&&◌, nat_lt, nat_le, eqb, cond, List, [], ◌∷◌, ◌++◌, fold, refl}
-use Rattle.std.proofs.Common.{◌∙◌, arith, ltb-true, leb-true, length-append, eq-eqb, ◌||◌}
-use Rattle.std.specs.Cmp.Derive.{both_true}
-use Rattle.std.specs.Prelude.{is_some, not}
-use Rattle.std.proofs.lemmas.Bool.{and_parts}
-use Rattle.std.proofs.lemmas.Option.{same_Some}
-use Rattle.dna_packet.specs.Nsp.{SegmentValue}
-use Rattle.dna_links.specs.Queues.{ended}
-use Rattle.dna_links.specs.declared.tag.LinkTag.{LinkTag}
-use Rattle.dna_links.specs.declared.port.Phase.{Phase}
-use Rattle.dna_links.specs.declared.port.Phase.TheVariants.{Calling, Called, Running}
-use Rattle.dna_links.specs.LookUps.{is_live, is_at, is_called, is_calling, is_connected}
-use Rattle.dna_links.specs.Segmentation.{Piece, without_piece, SEGSIZE}
-use Rattle.dna_links.specs.Links.{LinkOf, in_phase, with_segments}
-use Rattle.dna_links.specs.inner.Forms.{answered}
-use Rattle.dna_links.specs.Arriving.{PartnerRule}
-use Rattle.dna_links.specs.inner.Forms.{confirmed}
-use Rattle.dna_links.specs.TrueSegments.{TrueSegments, Numbers, true_segments, highest_given, acknowledged_through}
-use Rattle.dna_links.specs.CutSegments.{IsOrdered}
-use Rattle.dna_play.specs.HasLine.{are_bytes}
-use Rattle.dna_play.specs.LinkOwed.{EndConfirm}
-use Rattle.dna_play.proofs.EachElement.{more_all}
-use Rattle.dna_play.proofs.Links.Pays.{fits_in}
+use Rattle.dna_play.proofs.Prelude.{◌≡◌, ℕ, ◌<◌, ◌≤◌, Bool, true, false, ◌&&◌, nat_lt, nat_le, eqb, cond, List, [], ◌∷◌, ◌++◌, fold, refl, ◌∙◌}
+use Rattle.dna_play.proofs.Prelude.{arith, ltb-true, leb-true, length-append, eq-eqb, ◌||◌, both_true, is_some, not, and_parts, same_Some}
+use Rattle.dna_play.proofs.Prelude.{SegmentValue, ended, LinkTag, Phase, Calling, Called, Running, is_live, is_at, is_called, is_calling}
+use Rattle.dna_play.proofs.Prelude.{is_connected, Piece, without_piece, SEGSIZE, LinkOf, in_phase, with_segments, answered, PartnerRule, confirmed}
+use Rattle.dna_play.proofs.Prelude.{TrueSegments, Numbers, true_segments, highest_given, acknowledged_through, IsOrdered, are_bytes, EndConfirm}
+use Rattle.dna_play.proofs.{EachElement.more_all, Links.Pays.fits_in, Links.Phases.called_is, Links.Phases.calling_is, Links.Owing.SegmentsMove}
+use Rattle.dna_play.proofs.{Links.Owing.stays}
 use Rattle.dna_play.proofs.Links.Fits.{PieceFits, SegmentsFit, LinkFits, left_fits, connected_fits, fits_as}
-use Rattle.dna_play.proofs.Links.Phases.{called_is, calling_is}
-use Rattle.dna_play.proofs.Links.Owing.{SegmentsMove, stays}
 use Rattle.dna_play.proofs.Links.Confirms.{may_be, IsPast, connected_past}
 
 -- ---- its segments

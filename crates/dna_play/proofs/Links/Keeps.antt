@@ -1,27 +1,12 @@
 -- The links of an end beside all links of its node: each that lives is kept at its place, with what it owes, and fits; of one that is over nothing is
 -- kept. What becomes of one link of the node becomes of it where it is kept.
-use Rattle.std.proofs.Common.{◌≡◌, ℕ, zero, suc, Bool, true, false, Option, Some, None, option_map, List, [], ◌∷◌, ◌++◌, refl, sym, ap, subst, ◌∙◌}
-use Rattle.std.specs.Prelude.{position, slice_get, slice_set}
-use Rattle.std.specs.List.{remove}
-use Rattle.std.proofs.lemmas.Bool.{and_parts, false_from_ne_true}
-use Rattle.std.proofs.lemmas.Option.{same_Some}
-use Rattle.dna_links.specs.declared.port.LinkTest.{LinkTest}
-use Rattle.dna_links.specs.declared.port.LinkTest.TheVariants.{TheLink, LiveTo, LiveAt, CallingAt, CalledBy, ActedOn}
-use Rattle.dna_links.specs.declared.port.Port.{Port}
-use Rattle.dna_links.specs.LookUps.{passes, is_live, is_called, is_calling, is_connected, is_at, has_both}
-use Rattle.dna_links.specs.Links.{LinkOf, number_of, at_number, with_link}
-use Rattle.dna_links.specs.TrueSegments.{TrueSegments}
-use Rattle.dna_links.specs.TrueLinks.{Links}
-use Rattle.dna_play.specs.LinkOwed.{LinkOwed}
-use Rattle.dna_play.specs.NextSent.{LinkEnd}
-use Rattle.dna_play.specs.StoredEnd.{StoredLinks}
-use Rattle.dna_play.specs.StoredLinks.{at_place, with_end}
-use Rattle.dna_links.proofs.Tables.Outcomes.{IsFound, position_passes}
-use Rattle.dna_node.proofs.Once.Addresses.{LinkList}
-use Rattle.dna_play.proofs.Links.Fits.{LinkFits}
-use Rattle.dna_play.proofs.Links.Pays.{OwedFits, end_of}
+use Rattle.dna_play.proofs.Prelude.{◌≡◌, ℕ, zero, suc, Bool, true, false, Option, Some, None, option_map, List, [], ◌∷◌, ◌++◌, refl, sym, ap, subst}
+use Rattle.dna_play.proofs.Prelude.{◌∙◌, position, slice_get, slice_set, remove, and_parts, false_from_ne_true, same_Some, LinkTest, TheLink}
+use Rattle.dna_play.proofs.Prelude.{LiveTo, LiveAt, CallingAt, CalledBy, ActedOn, Port, passes, is_live, is_called, is_calling, is_connected, is_at}
+use Rattle.dna_play.proofs.Prelude.{has_both, LinkOf, number_of, at_number, with_link, TrueSegments, Links, LinkOwed, LinkEnd, StoredLinks}
+use Rattle.dna_play.proofs.Prelude.{at_place, with_end, IsFound, position_passes, LinkList}
+use Rattle.dna_play.proofs.{Links.Fits.LinkFits, Links.Pays.OwedFits, Links.Pays.end_of, Links.Lists.position_here, Links.Lists.position_later}
 use Rattle.dna_play.proofs.Links.Phases.{called_is, calling_is, connected_is, connected_when}
-use Rattle.dna_play.proofs.Links.Lists.{position_here, position_later}
 
 -- ---- what is kept
 

@@ -1,11 +1,7 @@
 -- An item that is set where it stands, and the first item of a list that passes a test.
-use Rattle.std.proofs.Common.{◌≡◌, refl, ℕ, suc, ◌+◌, ◌<◌, ◌≤◌, Bool, true, false, not, ltb, cond, Option, Some, None, List, ◌∷◌, length}
-use Rattle.std.proofs.Common.{position, subst, ap, arith, lt-ltb, le-ltb, ◌⊎◌, inl, inr, option_map}
-use Rattle.std.specs.Prelude.{slice_get, slice_set}
-use Rattle.std.specs.List.{prefix_len}
-use Rattle.std.proofs.lemmas.Bool.{cases_lt}
-use Rattle.std.proofs.lemmas.Option.{get_or_from_slice_get}
-use Rattle.std.proofs.lemmas.List.{set-get_or}
+use Rattle.dna_play.proofs.Prelude.{◌≡◌, refl, ℕ, suc, ◌+◌, ◌<◌, ◌≤◌, Bool, true, false, not, ltb, cond, Option, Some, None, List, ◌∷◌, length}
+use Rattle.dna_play.proofs.Prelude.{position, subst, ap, arith, lt-ltb, le-ltb, ◌⊎◌, inl, inr, option_map, slice_get, slice_set, prefix_len}
+use Rattle.dna_play.proofs.Prelude.{cases_lt, get_or_from_slice_get, set-get_or}
 
 -- ---- one item
 

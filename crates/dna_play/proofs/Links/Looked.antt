@@ -1,22 +1,13 @@
 -- What holds of what a look-up among the links of an end comes to: it holds where none is found, and of the one that is found. So what holds of the
 -- links behind each change that a message may make holds behind the message.
-use Rattle.std.proofs.Common.{◌≡◌, ℕ, Bool, true, false, Option, Some, None, List, [], ◌∷◌, ◌++◌, refl}
-use Rattle.std.specs.Prelude.{slice_get, slice_set}
-use Rattle.std.specs.List.{remove}
-use Rattle.dna_packet.specs.declared.ack_word.AckWord.{AckWord}
-use Rattle.dna_packet.specs.Nsp.{NspValue, DataSegment, LinkService, DataAck, OtherDataAck, ConnectAck, NoOperation, ConnectInitiate, ConnectConfirm}
-use Rattle.dna_packet.specs.Nsp.{DisconnectInitiate, DisconnectConfirm}
-use Rattle.dna_links.specs.declared.port.Phase.{Phase}
-use Rattle.dna_links.specs.declared.port.Phase.TheVariants.{Called, Confirming}
-use Rattle.dna_links.specs.declared.port.LinkTest.{LinkTest}
-use Rattle.dna_links.specs.declared.port.LinkTest.TheVariants.{ActedOn, CallingAt, LiveTo, TheLink}
-use Rattle.dna_links.specs.LookUps.{is_running, passes}
-use Rattle.dna_links.specs.WireSegments.{acknowledged_by_all}
-use Rattle.dna_play.specs.NextSent.{LinkEnd}
-use Rattle.dna_play.specs.StoredEnd.{StoredLinks}
-use Rattle.dna_play.specs.StoredLinks.{acted_on, acts, at_place, called, called_again, changed, confirm_came, confirmed, confirmed_again, confirming}
-use Rattle.dna_play.specs.StoredLinks.{ended, ends_link, message_came, no_more, on_end, place_of, took_acks, with_end}
-use Rattle.dna_links.proofs.Tables.Outcomes.{position_passes}
+use Rattle.dna_play.proofs.Prelude.{◌≡◌, ℕ, Bool, true, false, Option, Some, None, List, [], ◌∷◌, ◌++◌, refl, slice_get, slice_set, remove, AckWord}
+use Rattle.dna_play.proofs.Prelude.{NspValue, DataSegment, LinkService, DataAck, OtherDataAck, ConnectAck, NoOperation, ConnectInitiate}
+use Rattle.dna_play.proofs.Prelude.{ConnectConfirm, DisconnectInitiate, DisconnectConfirm, Phase, Called, Confirming, LinkTest, ActedOn, CallingAt}
+use Rattle.dna_play.proofs.Prelude.{LiveTo, TheLink, is_running, passes, acknowledged_by_all, LinkEnd, StoredLinks, acts, at_place, called}
+use Rattle.dna_play.proofs.Prelude.{called_again, confirm_came, confirmed_again, confirming, message_came, no_more, on_end, place_of, took_acks}
+use Rattle.dna_play.proofs.Prelude.{with_end, position_passes}
+use Rattle.dna_play.specs.StoredLinks.{acted_on, changed, confirmed}
+use Rattle.dna_play.specs.StoredLinks.{ended, ends_link}
 
 pub looked : {R : Type 0} (P : R → Type 0) (test : LinkTest) (s : StoredLinks) (otherwise : R) (next : ℕ → LinkEnd → R) → P otherwise →
     ((place : ℕ) (link : LinkEnd) → slice_get s.links place ≡ Some link → passes test link.port ≡ true → P (next place link)) →

@@ -1,35 +1,15 @@
 -- What the user of an end's links may do is done: where the rule of a step holds, its event is made.
-use Rattle.std.proofs.Common.{◌≡◌, refl, ℕ, ◌<◌, Bool, true, ◌&&◌, Some, None, List, Ok, ap, ap₂, arith, subst, sym}
-use Rattle.std.specs.Prelude.{slice_get}
-use Rattle.std.proofs.lemmas.Bool.{and_parts}
-use Rattle.std.proofs.lemmas.Option.{same_Some}
-use Rattle.capture_record.specs.declared.event.Event.{Event}
+use Rattle.dna_play.proofs.Prelude.{◌≡◌, refl, ℕ, ◌<◌, Bool, true, ◌&&◌, Some, None, List, Ok, ap, ap₂, arith, subst, sym, slice_get, and_parts}
+use Rattle.dna_play.proofs.Prelude.{same_Some, Event, User, Without, Phase, Disconnecting, LiveAt, CalledBy, is_live, is_at, is_calling}
+use Rattle.dna_play.proofs.Prelude.{is_connected, takes_messages, LinkOf, number_of, begun, changed, in_phase, with_segments, ended, LinkEventValue}
+use Rattle.dna_play.proofs.Prelude.{Open, In, opened, answers, TrueSegments, true_segments, Links, links_user, link_event, Layers}
+use Rattle.dna_play.proofs.Prelude.{layers_user, with_links, by_bytes, has_line, end_step, makes, IsFound, at_is, LinkList, AreAddressed}
+use Rattle.dna_play.proofs.Prelude.{freed_same}
 use Rattle.capture_record.specs.declared.event.Event.TheVariants as events
-use Rattle.capture_record.specs.declared.record.Record.TheVariants.{User}
-use Rattle.dna_links.specs.declared.queue.Queues.TheVariants.{Without}
-use Rattle.dna_links.specs.declared.port.Phase.{Phase}
-use Rattle.dna_links.specs.declared.port.Phase.TheVariants.{Disconnecting}
-use Rattle.dna_links.specs.declared.port.LinkTest.TheVariants.{LiveAt, CalledBy}
-use Rattle.dna_links.specs.LookUps.{is_live, is_at, is_calling, is_connected, takes_messages}
-use Rattle.dna_links.specs.Links.{LinkOf, number_of, begun, changed, in_phase, with_segments}
-use Rattle.dna_links.specs.Queues.{ended}
-use Rattle.dna_links.specs.User.{LinkEventValue, Open, In, Close, Abort, Boot}
-use Rattle.dna_links.specs.inner.Forms.{opened, gives, answers}
+use Rattle.dna_links.specs.User.{Close, Abort, Boot}
 use Rattle.dna_links.specs.inner.Forms as forms
-use Rattle.dna_links.specs.TrueSegments.{TrueSegments, true_segments}
-use Rattle.dna_links.specs.TrueLinks.{Links, links_user}
-use Rattle.dna_node.specs.Content.{link_event}
-use Rattle.dna_node.specs.Layers.{Layers, layers_user, with_links}
-use Rattle.dna_node.specs.TagRules.{by_bytes}
-use Rattle.dna_play.specs.HasLine.{has_line}
-use Rattle.dna_play.specs.Played.{end_step, makes}
-use Rattle.dna_play.proofs.Played.Steps.{PlayHalf}
-use Rattle.dna_links.proofs.Tables.Outcomes.{IsFound}
-use Rattle.dna_links.proofs.Runs.Reads.{at_is}
-use Rattle.dna_node.proofs.Once.Addresses.{LinkList, AreAddressed, freed_same}
+use Rattle.dna_play.proofs.{Played.Steps.PlayHalf, Ends.Stage.with_left, Ends.TrueEnd.links_of}
 use Rattle.dna_play.proofs.Links.Pays.{found_at, is_there, none_found}
-use Rattle.dna_play.proofs.Ends.Stage.{with_left}
-use Rattle.dna_play.proofs.Ends.TrueEnd.{links_of}
 
 -- ---- an event is made
 

@@ -1,16 +1,9 @@
 -- What a link of the player owes goes with its phase, and no more segments are sent in a go than are outstanding, whatever becomes of it.
-use Rattle.std.proofs.Common.{◌≡◌, ℕ, ◌+◌, ◌≤◌, Bool, true, false, length, refl, sym, ap, ◌∙◌, subst, arith, length-drop}
-use Rattle.std.proofs.Math.Nat.{sub-zero}
-use Rattle.dna_links.specs.declared.port.Phase.{Phase}
-use Rattle.dna_links.specs.declared.port.Phase.TheVariants.{Calling, Called, Confirming, Running, Disconnecting, Ended}
-use Rattle.dna_links.specs.Links.{LinkOf}
-use Rattle.dna_links.specs.SegmentBook.{wire, distance}
-use Rattle.dna_links.specs.TrueSegments.{TrueSegments, highest_given}
-use Rattle.dna_links.specs.CutSegments.{IsOrdered}
-use Rattle.dna_play.specs.LinkOwed.{LinkOwed, nothing, Duty, ConnectAckDuty, InitiateDuty, ConfirmDuty, DisconnectDuty, DataAckDuty, SegmentDuty}
-use Rattle.dna_play.specs.LinkOwed.{with_duty, same_phase, unless_left, lowered}
-use Rattle.dna_play.specs.NextSent.{without_duty}
-use Rattle.dna_links.proofs.Tables.Numbers.{distance_ahead}
+use Rattle.dna_play.proofs.Prelude.{◌≡◌, ℕ, ◌+◌, ◌≤◌, Bool, true, false, length, refl, sym, ap, ◌∙◌, subst, arith, length-drop, sub-zero, Phase}
+use Rattle.dna_play.proofs.Prelude.{Calling, Called, Confirming, Running, Disconnecting, Ended, LinkOf, distance, TrueSegments, highest_given}
+use Rattle.dna_play.proofs.Prelude.{IsOrdered, LinkOwed, nothing, Duty, ConnectAckDuty, InitiateDuty, ConfirmDuty, DisconnectDuty, DataAckDuty}
+use Rattle.dna_play.proofs.Prelude.{SegmentDuty, with_duty, same_phase, unless_left, lowered, without_duty, distance_ahead}
+use Rattle.dna_links.specs.SegmentBook.{wire}
 use Rattle.dna_play.proofs.Links.Pays.{variables_of, is_owed, phase_of, OwedFits}
 
 -- ---- what a link owes still

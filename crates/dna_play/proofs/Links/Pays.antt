@@ -1,30 +1,13 @@
 -- What a link of the player is by its phase, and what it owes; the look-ups among the links, and what these let an end send.
-use Rattle.std.proofs.Common.{◌≡◌, ℕ, ◌≤◌, Bool, true, false, ◌&&◌, ◌||◌, not, eqb, cond, Option, Some, None}
-use Rattle.std.proofs.Common.{length, Result, Ok, Err, refl, ap, ◌∙◌, subst, arith, eq-eqb}
-use Rattle.std.specs.Prelude.{slice_get, is_some}
-use Rattle.std.proofs.lemmas.Bool.{and_parts, ne_eqb}
-use Rattle.std.proofs.lemmas.Option.{same_Some}
-use Rattle.dna_packet.specs.Nsp.{NspValue, DisconnectConfirm}
-use Rattle.dna_station.specs.declared.link_refusal.LinkRefusal.{LinkRefusal}
-use Rattle.dna_station.specs.declared.link_refusal.LinkRefusal.TheVariants.{NoLink, LinkState}
-use Rattle.dna_links.specs.declared.queue.Queues.TheVariants.{Without}
-use Rattle.dna_links.specs.declared.port.Phase.{Phase}
-use Rattle.dna_links.specs.declared.port.Phase.TheVariants.{Calling, Called, Confirming, Running, Disconnecting, Ended}
-use Rattle.dna_links.specs.declared.port.LinkTest.{LinkTest}
-use Rattle.dna_links.specs.declared.port.LinkTest.TheVariants.{TheLink}
-use Rattle.dna_links.specs.LookUps.{is_running, is_at, passes}
-use Rattle.dna_links.specs.Links.{LinkOf, check, number_of, at_number, with_link}
-use Rattle.dna_links.specs.Sending.{Sent, message_sent}
-use Rattle.dna_links.specs.inner.Forms.{of_no_link}
-use Rattle.dna_links.specs.TrueSegments.{TrueSegments, Numbers, true_segments}
-use Rattle.dna_links.specs.TrueLinks.{Links}
-use Rattle.dna_links.specs.WireSegments.{LinkVariables}
+use Rattle.dna_play.proofs.Prelude.{◌≡◌, ℕ, ◌≤◌, Bool, true, false, ◌&&◌, ◌||◌, not, eqb, cond, Option, Some, None, length, Result, Ok, Err, refl}
+use Rattle.dna_play.proofs.Prelude.{ap, ◌∙◌, subst, arith, eq-eqb, slice_get, is_some, and_parts, ne_eqb, same_Some, NspValue, DisconnectConfirm}
+use Rattle.dna_play.proofs.Prelude.{LinkRefusal, NoLink, LinkState, Without, Phase, Calling, Called, Confirming, Running, Disconnecting, Ended}
+use Rattle.dna_play.proofs.Prelude.{LinkTest, TheLink, is_running, is_at, passes, LinkOf, check, number_of, at_number, with_link, message_sent}
+use Rattle.dna_play.proofs.Prelude.{of_no_link, TrueSegments, Numbers, true_segments, Links, LinkVariables, LinkOwed, Duty, ConnectAckDuty}
+use Rattle.dna_play.proofs.Prelude.{InitiateDuty, ConfirmDuty, DisconnectDuty, DataAckDuty, SegmentDuty, LinkEnd, has_new, has_repeat, has_segment}
+use Rattle.dna_play.proofs.Prelude.{duty_of, SEGSIZE, address, IsFound, looked, position_none}
+use Rattle.dna_links.specs.Sending.{Sent}
 use Rattle.dna_links.specs.CutSegments.{cut}
-use Rattle.dna_play.specs.LinkOwed.{LinkOwed, Duty, ConnectAckDuty, InitiateDuty, ConfirmDuty, DisconnectDuty, DataAckDuty, SegmentDuty}
-use Rattle.dna_play.specs.NextSent.{LinkEnd, has_new, has_repeat, has_segment, duty_of}
-use Rattle.dna_links.specs.Segmentation.{SEGSIZE}
-use Rattle.dna_play.specs.Compose.{address}
-use Rattle.dna_links.proofs.Tables.Outcomes.{IsFound, looked, position_none}
 
 -- ---- a link beside its end
 

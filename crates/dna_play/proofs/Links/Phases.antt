@@ -1,12 +1,7 @@
 -- Phases of a link, as the rules of a script's steps and the tables of the links have them.
-use Rattle.std.proofs.Common.{◌≡◌, Bool, true, ◌&&◌, inl, inr, Option, Some, None, List, [], ◌∷◌, refl, ap, ◌∙◌}
-use Rattle.std.specs.Prelude.{is_some}
-use Rattle.std.proofs.lemmas.Bool.{and_parts}
-use Rattle.dna_links.specs.declared.port.Phase.{Phase}
-use Rattle.dna_links.specs.declared.port.Phase.TheVariants.{Calling, Called, Confirming, Running, Disconnecting, Ended}
-use Rattle.dna_links.specs.LookUps.{is_live, is_called, is_calling, is_connected, takes_messages}
-use Rattle.dna_play.specs.LinkOwed.{LinkOwed, retried}
-use Rattle.dna_play.specs.StepRule.{IsOneOf}
+use Rattle.dna_play.proofs.Prelude.{◌≡◌, Bool, true, ◌&&◌, inl, inr, Option, Some, None, List, [], ◌∷◌, refl, ap, ◌∙◌, is_some, and_parts, Phase}
+use Rattle.dna_play.proofs.Prelude.{Calling, Called, Confirming, Running, Disconnecting, Ended, is_live, is_called, is_calling, is_connected}
+use Rattle.dna_play.proofs.Prelude.{takes_messages, LinkOwed, retried, IsOneOf}
 
 -- whether each of these phases passes a test
 abbrev all_pass : (Phase → Bool) → List Phase → Bool

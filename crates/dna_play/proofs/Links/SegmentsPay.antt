@@ -1,29 +1,16 @@
 -- What a link of the player in RUN puts together may be sent, by the rules on its segments: a data ack, a segment once more, a new segment. And what
 -- is left of the link then, as a node keeps it.
-use Rattle.std.proofs.Common.{◌≡◌, ℕ, ◌+◌, ◌-◌, ◌<◌, ◌≤◌, max, min, Bool, true, false, ◌&&◌, ◌||◌, not, eqb, nat_lt, nat_le, Some, None, List}
-use Rattle.std.proofs.Common.{[], ◌∷◌, ◌++◌, length, take, Result, Ok, refl, sym, ap, ◌∙◌, arith, eq-eqb, lt-ltb, le-leb, length-drop, ◌⊎◌, inl}
-use Rattle.std.proofs.Common.{inr}
-use Rattle.std.specs.Prelude.{slice_get}
-use Rattle.std.specs.Cmp.Derive.{both_true}
+use Rattle.dna_play.proofs.Prelude.{◌≡◌, ℕ, ◌+◌, ◌-◌, ◌<◌, ◌≤◌, max, min, Bool, true, false, ◌&&◌, ◌||◌, not, eqb, nat_lt, nat_le, Some, None, List}
+use Rattle.dna_play.proofs.Prelude.{[], ◌∷◌, ◌++◌, length, take, Result, Ok, refl, sym, ap, ◌∙◌, arith, eq-eqb, lt-ltb, le-leb, length-drop, ◌⊎◌}
+use Rattle.dna_play.proofs.Prelude.{inl, inr, slice_get, both_true, cases_lt, ne_eqb, lt-leb, drop-append-le, length-take, take_min}
+use Rattle.dna_play.proofs.Prelude.{slice_get_within, bytes_eq-Decides, LinkRefusal, Port, Piece, alike, same_piece, is_piece_of, is_next_piece}
+use Rattle.dna_play.proofs.Prelude.{without_piece, has_more, SEGSIZE, piece_with, next_piece_of, next_piece, Sending, REACH, distance, TrueSegments}
+use Rattle.dna_play.proofs.Prelude.{Numbers, Named, highest_given, highest_received, named, sending, sends_acks, is_repeat, sends_segment}
+use Rattle.dna_play.proofs.Prelude.{IsOrdered, IsAnswered, LinkOwed, LinkEnd, segment_with, ack_of, gave, slice_get-drop, distance_ahead}
 use Rattle.std.specs.Str.{bytes_eq}
-use Rattle.std.proofs.lemmas.Bool.{cases_lt, ne_eqb, lt-leb}
-use Rattle.std.proofs.lemmas.List.{drop-append-le, length-take, take_min}
-use Rattle.std.proofs.lemmas.Option.{slice_get_within}
-use Rattle.std.proofs.lemmas.Slice.Eq.{bytes_eq-Decides}
-use Rattle.dna_station.specs.declared.link_refusal.LinkRefusal.{LinkRefusal}
-use Rattle.dna_links.specs.declared.port.Port.{Port}
-use Rattle.dna_links.specs.Segmentation.{Piece, alike, same_piece, is_piece_of, is_next_piece, without_piece, has_more, SEGSIZE, piece_with}
-use Rattle.dna_links.specs.Segmentation.{next_piece_of, next_piece}
-use Rattle.dna_links.specs.SegmentBook.{Sending, REACH, wire, distance}
-use Rattle.dna_links.specs.TrueSegments.{TrueSegments, Numbers, Named, highest_given, highest_received, named, sending}
-use Rattle.dna_links.specs.TrueSegments.{sends_acks, is_repeat, is_new, sends_segment}
-use Rattle.dna_links.specs.CutSegments.{cut, IsOrdered, IsAnswered}
-use Rattle.dna_play.specs.LinkOwed.{LinkOwed}
-use Rattle.dna_play.specs.NextSent.{LinkEnd}
-use Rattle.dna_play.specs.Compose.{segment_with, ack_of}
-use Rattle.dna_play.specs.StoredLinks.{gave}
-use Rattle.two_nodes.proofs.NumberedSteps.{slice_get-drop}
-use Rattle.dna_links.proofs.Tables.Numbers.{distance_ahead}
+use Rattle.dna_links.specs.SegmentBook.{wire}
+use Rattle.dna_links.specs.TrueSegments.{is_new}
+use Rattle.dna_links.specs.CutSegments.{cut}
 use Rattle.dna_play.proofs.Links.Fits.{PieceFits}
 use Rattle.dna_play.proofs.Links.Goes.{SegmentsGo, acks_go, stays_as_it_is, given_goes}
 

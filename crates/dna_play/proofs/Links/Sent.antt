@@ -1,26 +1,13 @@
 -- The message of a link's duty, or a DC, may be sent; and what it makes of the links then: what is sent is owed no more.
-use Rattle.std.proofs.Common.{◌≡◌, ℕ, ◌+◌, ◌≤◌, length, Ok, refl, ap, ◌∙◌, subst, arith}
-use Rattle.std.specs.Prelude.{slice_get}
-use Rattle.dna_packet.specs.Nsp.{NspValue}
-use Rattle.dna_links.specs.declared.queue.Queues.TheVariants.{Without}
-use Rattle.dna_links.specs.Links.{LinkOf, with_segments}
-use Rattle.dna_links.specs.Sending.{Sent, message_sent}
-use Rattle.dna_links.specs.inner.Forms.{of_no_link}
-use Rattle.dna_links.specs.TrueSegments.{TrueSegments, Numbers, true_segments}
-use Rattle.dna_links.specs.TrueLinks.{Links}
-use Rattle.dna_links.specs.CutSegments.{IsOrdered}
-use Rattle.dna_play.specs.LinkOwed.{LinkOwed, Duty, SegmentDuty}
-use Rattle.dna_play.specs.NextSent.{LinkEnd, LinkChoice, without_duty}
-use Rattle.dna_play.specs.StoredEnd.{StoredLinks}
-use Rattle.dna_play.specs.StoredLinks.{gave_by, sent_at, after_sent}
-use Rattle.dna_node.proofs.Once.Addresses.{LinkList, AreAddressed}
-use Rattle.dna_play.proofs.Ends.Stage.{HasNumbers}
+use Rattle.dna_play.proofs.Prelude.{◌≡◌, ℕ, ◌+◌, ◌≤◌, length, Ok, refl, ap, ◌∙◌, subst, arith, slice_get, NspValue, Without, LinkOf, with_segments}
+use Rattle.dna_play.proofs.Prelude.{message_sent, of_no_link, TrueSegments, Numbers, true_segments, Links, IsOrdered, LinkOwed, Duty, SegmentDuty}
+use Rattle.dna_play.proofs.Prelude.{LinkEnd, LinkChoice, without_duty, StoredLinks, gave_by, sent_at, after_sent, LinkList, AreAddressed}
+use Rattle.dna_links.specs.Sending.{Sent}
+use Rattle.dna_play.proofs.{Ends.Stage.HasNumbers, Links.Confirms.done_over, Links.Goes.segments_go}
 use Rattle.dna_play.proofs.Links.Pays.{variables_of, end_of, OwedFits, MaySendIt, confirm_may}
 use Rattle.dna_play.proofs.Links.Owing.{still_fits, still_same, sent_duty_fits}
-use Rattle.dna_play.proofs.Links.Confirms.{done_over}
 use Rattle.dna_play.proofs.Links.Choices.{IsAsked, OfDuty, OfConfirm}
 use Rattle.dna_play.proofs.Links.Duties.{DutyMade, duty_made, gave_ahead}
-use Rattle.dna_play.proofs.Links.Goes.{segments_go}
 use Rattle.dna_play.proofs.Links.Keeps.{At, is_kept, link_there, kept_there}
 use Rattle.dna_play.proofs.Links.Stage.{LinkHolds, set_holds, first_sent_holds}
 

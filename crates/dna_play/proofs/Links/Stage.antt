@@ -1,22 +1,10 @@
 -- What holds of the links of an end of the player is kept by each thing that happens: each that lives is kept and fits, what it owes goes with it,
 -- and each DC names a link that is over.
-use Rattle.std.proofs.Common.{◌≡◌, ℕ, ◌+◌, ◌<◌, ◌≤◌, ◌^◌, true, false, Some, List, [], ◌∷◌, map, drop, refl, sym, subst, ◌∙◌, arith}
-use Rattle.std.specs.Prelude.{slice_get}
-use Rattle.two_nodes.proofs.NumberedSteps.{slice_get-drop}
-use Rattle.dna_links.specs.LookUps.{is_live}
-use Rattle.dna_links.specs.Links.{LinkOf, begun, changed}
-use Rattle.dna_links.specs.Queues.{booted, booted_link}
-use Rattle.dna_links.specs.declared.queue.Queues.TheVariants.{Without}
-use Rattle.dna_links.specs.TrueSegments.{TrueSegments, true_segments}
-use Rattle.dna_links.specs.TrueLinks.{Links}
-use Rattle.dna_play.specs.LinkOwed.{LinkOwed, EndConfirm}
-use Rattle.dna_play.specs.StoredEnd.{StoredLinks, no_stored_links}
+use Rattle.dna_play.proofs.Prelude.{◌≡◌, ℕ, ◌+◌, ◌<◌, ◌≤◌, ◌^◌, true, false, Some, List, [], ◌∷◌, map, drop, refl, sym, subst, ◌∙◌, arith}
+use Rattle.dna_play.proofs.Prelude.{slice_get, slice_get-drop, is_live, LinkOf, begun, changed, booted, booted_link, Without, TrueSegments}
+use Rattle.dna_play.proofs.Prelude.{true_segments, Links, LinkOwed, EndConfirm, StoredLinks, no_stored_links, all_pushed, all_set, LinkList}
 use Rattle.dna_play.specs.StoredLinks as keeping
-use Rattle.dna_links.proofs.Runs.Sides.{all_pushed, all_set}
-use Rattle.dna_node.proofs.Once.Addresses.{LinkList}
-use Rattle.dna_play.proofs.Links.Lists.{set_back}
-use Rattle.dna_play.proofs.Links.Pays.{OwedFits, end_of}
-use Rattle.dna_play.proofs.Links.Confirms.{IsDone, IsPast}
+use Rattle.dna_play.proofs.{Links.Lists.set_back, Links.Pays.OwedFits, Links.Pays.end_of, Links.Confirms.IsDone, Links.Confirms.IsPast}
 use Rattle.dna_play.proofs.Links.Goes.{Goes, segments_go, stays_as_it_is}
 use Rattle.dna_play.proofs.Links.Keeps.{Keeps, NoLink, Over, At, IsKept, is_kept, link_there, keeps_set, keeps_no_more, keeps_begun}
 

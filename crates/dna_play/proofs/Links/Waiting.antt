@@ -1,22 +1,13 @@
 -- How many pieces wait at the links that an end keeps: what comes adds at most one, each message that is whole then takes at least one, and nothing
 -- else adds any.
-use Rattle.std.proofs.Common.{◌≡◌, ℕ, zero, suc, ◌+◌, ◌≤◌, Bool, true, false, cond, ◌&&◌, nat_le, Option, Some, None, List, [], ◌∷◌, ◌++◌, length}
-use Rattle.std.proofs.Common.{refl, ap, ◌∙◌, arith}
-use Rattle.std.specs.Prelude.{drop, slice_get, slice_set}
-use Rattle.std.specs.List.{remove}
-use Rattle.dna_packet.specs.declared.ack_word.AckWord.{AckWord}
-use Rattle.dna_packet.specs.Nsp.{NspValue, SegmentValue, DataSegment}
-use Rattle.dna_links.specs.declared.port.LinkTest.TheVariants.{ActedOn}
-use Rattle.dna_links.specs.SegmentBook.{REACH, distance}
-use Rattle.dna_links.specs.Segmentation.{Piece, piece_of, hold, in_whole_messages, one_more}
-use Rattle.dna_links.specs.WireSegments.{LinkVariables, acknowledged_by, acknowledged_by_all, acknowledged_to, held, segment_taken, with_pieces}
-use Rattle.dna_play.specs.LinkOwed.{Duty, SegmentDuty}
-use Rattle.dna_play.specs.NextSent.{LinkEnd, Choice, SendNew, Confirms, OfLink}
-use Rattle.dna_play.specs.Receipt.{complete}
-use Rattle.dna_play.specs.StoredEnd.{StoredLinks}
-use Rattle.dna_play.specs.StoredLinks.{Delivering, called, changed, delivering_none, duty_sent, gave, gave_by, message_came, sent_at, took_segment}
-use Rattle.dna_play.specs.StoredLinks.{without_whole}
-use Rattle.dna_play.specs.StoredPlay.{arrived, links_sent}
+use Rattle.dna_play.proofs.Prelude.{◌≡◌, ℕ, zero, suc, ◌+◌, ◌≤◌, Bool, true, false, cond, ◌&&◌, nat_le, Option, Some, None, List, [], ◌∷◌, ◌++◌}
+use Rattle.dna_play.proofs.Prelude.{length, refl, ap, ◌∙◌, arith, drop, slice_get, slice_set, remove, AckWord, NspValue, SegmentValue, DataSegment}
+use Rattle.dna_play.proofs.Prelude.{ActedOn, REACH, distance, Piece, piece_of, hold, in_whole_messages, one_more, LinkVariables, acknowledged_by}
+use Rattle.dna_play.proofs.Prelude.{acknowledged_by_all, acknowledged_to, held, segment_taken, with_pieces, Duty, SegmentDuty, LinkEnd, Choice}
+use Rattle.dna_play.proofs.Prelude.{SendNew, Confirms, OfLink, complete, StoredLinks, Delivering, called, delivering_none, duty_sent, gave, gave_by}
+use Rattle.dna_play.proofs.Prelude.{message_came, sent_at, took_segment, without_whole, arrived}
+use Rattle.dna_play.specs.StoredLinks.{changed}
+use Rattle.dna_play.specs.StoredPlay.{links_sent}
 use Rattle.dna_play.proofs.Links.Looked.{came, looked}
 
 -- ---- pieces

@@ -1,7 +1,6 @@
 -- Steps behind steps that were made: they play as they do on what those made.
-use Rattle.std.proofs.Common.{◌≡◌, refl, ℕ, ◌+◌, List, [], ◌∷◌, ◌++◌, length, Result, Ok, Err, ap, ◌∙◌, arith}
-use Rattle.dna_play.specs.Script.{ScriptStep}
-use Rattle.dna_play.specs.Stop.{Stop, Stopped, if_made, plays_all}
+use Rattle.dna_play.proofs.Prelude.{◌≡◌, refl, ℕ, ◌+◌, List, [], ◌∷◌, ◌++◌, length, Result, Ok, Err, ap, ◌∙◌, arith, ScriptStep, Stop, Stopped}
+use Rattle.dna_play.proofs.Prelude.{if_made, plays_all}
 
 module _ {S : Type 0} (plays : S → ScriptStep → Result S Stop) where
   -- by what the first of them makes

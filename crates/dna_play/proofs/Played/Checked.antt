@@ -1,14 +1,6 @@
 -- What a script plays that starts each side at most once is a run of two captures, as a judge has it.
-use Rattle.std.proofs.Common.{◌≡◌, ℕ, ◌≤◌, List, take, Ok, Err, arith}
-use Rattle.two_nodes.specs.Nodes.{Run}
-use Rattle.capture_record.specs.declared.record.Record.{Record}
-use Rattle.dna_node.specs.LayersPair.{layers_pair, layers_start}
-use Rattle.dna_play.specs.Script.{Script}
-use Rattle.dna_play.specs.Stop.{Stopped}
-use Rattle.dna_play.specs.Played.{Played, play}
-use Rattle.dna_play.specs.PlayRun.{StartsOnce}
-use Rattle.dna_node.proofs.Once.Orderly.{IsOrderly}
-use Rattle.dna_node.proofs.Once.Checked.{is_checked_run}
+use Rattle.dna_play.proofs.Prelude.{◌≡◌, ℕ, ◌≤◌, List, take, Ok, Err, arith, Run, Record, layers_pair, layers_start, Script, Stopped, Played, play}
+use Rattle.dna_play.proofs.Prelude.{StartsOnce, IsOrderly, is_checked_run}
 use Rattle.dna_play.proofs.Played.Order.{InOrder}
 use Rattle.dna_play.proofs.Played.Reached.{Progress, progress_of, whole_reached, stopped_reached}
 use Rattle.dna_play.proofs.Played.Runs.{Going, first_head, second_head, reached_going}

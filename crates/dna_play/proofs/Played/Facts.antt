@@ -1,52 +1,18 @@
 -- What is known of an end of the player beside the other while a script is played: of what may come to it, and of what its user may get then. It
 -- stays known while the end takes a unit and its user gets what is whole.
-use Rattle.std.proofs.Common.{◌≡◌, ℕ, ◌<◌, ◌≤◌, ◌^◌, true, Option, Some, None, List, [], ◌++◌, Ok, sym, ap, ◌∙◌, arith, subst}
+use Rattle.dna_play.proofs.Prelude.{◌≡◌, ℕ, ◌<◌, ◌≤◌, ◌^◌, true, Option, Some, None, List, [], ◌++◌, Ok, sym, ap, ◌∙◌, arith, subst, slice_get}
+use Rattle.dna_play.proofs.Prelude.{cut_half, lasts, reading, NspValue, Record, IsNode, Without, judged, Head, Sound, body_of, arrival_refusal}
+use Rattle.dna_play.proofs.Prelude.{of_partner, ArrivesNear, AreLinksBounded, SentMessage, LinkWorld, content, LayersUnit, stations, layers_pair}
+use Rattle.dna_play.proofs.Prelude.{side_of, link_events, Played, is_data, sound_bounded, LayersRead, packet_in, read_kept, start_read}
+use Rattle.dna_play.proofs.Prelude.{without_loose, BothOwned, sound, owned, bounded, content_in_range, IsLayersBounded, a_bounded, BothLinksSound}
+use Rattle.dna_play.proofs.Prelude.{AreAddressed, BothAddressed, reached_addressed, unit_reads, unit_content, ready_a}
 use Rattle.std.proofs.Math.Nat.{add-zero}
-use Rattle.std.specs.Prelude.{slice_get}
-use Rattle.two_nodes.specs.Cutting.{cut_half}
-use Rattle.two_nodes.proofs.Lasting.{lasts}
-use Rattle.ddcmp_msg.specs.Reading.{reading}
 use Rattle.ddcmp_msg.specs.Reading as read_as
-use Rattle.dna_packet.specs.Nsp.{NspValue}
-use Rattle.capture_record.specs.declared.record.Record.{Record}
-use Rattle.capture.specs.Range.{IsNode}
-use Rattle.dna_links.specs.declared.queue.Queues.TheVariants.{Without}
-use Rattle.dna_node.specs.TagRules.{judged}
-use Rattle.dna_station.specs.declared.head.Head.{Head}
-use Rattle.dna_station.specs.Book.{Sound, body_of}
-use Rattle.dna_station.specs.StationBook.{arrival_refusal}
-use Rattle.dna_links.specs.Arriving.{of_partner}
-use Rattle.dna_links.specs.CutLinks.{ArrivesNear}
-use Rattle.dna_links.specs.Bounds.{AreLinksBounded}
-use Rattle.dna_links.specs.Runs.{SentMessage, LinkWorld}
-use Rattle.dna_node.specs.Content.{content}
-use Rattle.dna_node.specs.Layers.{LayersUnit, stations}
-use Rattle.dna_node.specs.LayersPair.{layers_pair, side_of, link_events}
-use Rattle.dna_play.specs.Played.{Played}
-use Rattle.dna_station.proofs.Bounds.Numbers.{is_data}
-use Rattle.dna_station.proofs.Bounds.Runs.{sound_bounded}
-use Rattle.dna_node.proofs.LayersRead.{LayersRead, packet_in, read_kept, start_read}
-use Rattle.dna_links.proofs.Runs.Loose.{without_loose}
-use Rattle.dna_links.proofs.Runs.Bounds.{BothOwned, sound, owned, bounded}
-use Rattle.dna_node.proofs.ReadInRange.{content_in_range}
-use Rattle.dna_node.proofs.LayersBounded.{IsLayersBounded}
-use Rattle.dna_node.proofs.LayersBounds.{a_bounded}
-use Rattle.dna_links.proofs.Runs.Steps.{BothLinksSound}
-use Rattle.dna_node.proofs.Once.Addresses.{AreAddressed}
-use Rattle.dna_node.proofs.Once.AddressRuns.{BothAddressed, reached_addressed}
-use Rattle.dna_node.proofs.Once.Units.{unit_reads, unit_content}
-use Rattle.dna_play.proofs.Played.HandedLined.{events_lined}
-use Rattle.dna_play.proofs.Played.SidesLined.{is_lined}
-use Rattle.dna_play.proofs.Played.SentLined.{AreSentLined, sent_lined}
-use Rattle.dna_play.proofs.Played.Steps.{PlayHalf, MakesAll}
-use Rattle.dna_play.proofs.Played.Order.{InOrder, order_join}
-use Rattle.dna_play.proofs.Played.Reached.{Progress}
+use Rattle.dna_play.proofs.{Played.HandedLined.events_lined, Played.SidesLined.is_lined, Played.SentLined.AreSentLined, Played.SentLined.sent_lined}
+use Rattle.dna_play.proofs.{Played.Steps.PlayHalf, Played.Steps.MakesAll, Played.Order.InOrder, Played.Order.order_join, Played.Reached.Progress}
+use Rattle.dna_play.proofs.{Played.Known.heads_stay, Played.Known.numbers_of, Ends.Stage.Known, Ends.UpsFollow.IsLined}
 use Rattle.dna_play.proofs.Played.Runs.{Going, first_head, second_head, more_of_a}
-use Rattle.dna_node.proofs.Once.Checked.{ready_a}
 use Rattle.dna_play.proofs.Played.Checked.{IsCheckedRun, orderly, checked}
-use Rattle.dna_play.proofs.Played.Known.{heads_stay, numbers_of}
-use Rattle.dna_play.proofs.Ends.Stage.{Known}
-use Rattle.dna_play.proofs.Ends.UpsFollow.{IsLined}
 use Rattle.dna_play.proofs.Ends.TrueEnd.{End, station_of, links_of, stored, coming}
 
 pub record Facts (own other : End) : Type 0 where

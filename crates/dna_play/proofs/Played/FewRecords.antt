@@ -1,13 +1,8 @@
 -- The captures that a script stands for have few records: at most two for each step, one of them a delivery of what an earlier step brought. So they
 -- are never too long for their texts.
-use Rattle.std.proofs.Common.{◌≡◌, ℕ, ◌+◌, ◌*◌, ◌≤◌, List, length, Ok, Err, arith, length-append}
-use Rattle.capture.specs.declared.limit.TheConstants.{MAX_RECORDS}
-use Rattle.dna_play.specs.Script.{StepValue, ScriptStep, Script}
-use Rattle.dna_play.specs.ScriptText.{IsScript}
-use Rattle.dna_play.specs.Stop.{Stopped}
-use Rattle.dna_play.specs.Played.{Played, play}
-use Rattle.dna_play.proofs.Links.Waiting.{waiting}
-use Rattle.dna_play.proofs.Played.Walk.{stored_leaves}
+use Rattle.dna_play.proofs.Prelude.{◌≡◌, ℕ, ◌+◌, ◌*◌, ◌≤◌, List, length, Ok, Err, arith, length-append, MAX_RECORDS, StepValue, ScriptStep, Script}
+use Rattle.dna_play.proofs.Prelude.{IsScript, Stopped, Played, play}
+use Rattle.dna_play.proofs.{Links.Waiting.waiting, Played.Walk.stored_leaves}
 use Rattle.dna_play.proofs.Played.Reached.{Reached, Progress, one_more, StepOfA, OfStep, reached_holds, each_step, whole_reached, stopped_reached}
 
 -- the records of a side, with the pieces that wait there, are at most two for each step

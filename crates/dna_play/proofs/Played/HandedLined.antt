@@ -1,29 +1,14 @@
 -- What is handed in by records that have lines can stand in a line, and so can the own addresses of links; and what is whole of a link was handed
 -- in at its partner.
-use Rattle.std.proofs.Common.{◌≡◌, ℕ, zero, suc, ◌<◌, ◌≤◌, Bool, true, false, ◌==◌, cond, ◌⊎◌, inl, inr, Option, Some, None, List, [], ◌∷◌, ◌++◌}
-use Rattle.std.proofs.Common.{length, drop, refl, sym, ◌∙◌, subst, append-nil, append_assoc}
-use Rattle.std.specs.Prelude.{slice_get, slice_index}
-use Rattle.std.specs.List.{AllByRecursion}
-use Rattle.std.proofs.Math.Seq.{drop-nil}
-use Rattle.std.proofs.lemmas.Grind.{flat_map-append}
-use Rattle.std.proofs.lemmas.Option.{same_Some}
+use Rattle.dna_play.proofs.Prelude.{◌≡◌, ℕ, zero, suc, ◌<◌, ◌≤◌, Bool, true, false, ◌==◌, cond, ◌⊎◌, inl, inr, Option, Some, None, List, [], ◌∷◌}
+use Rattle.dna_play.proofs.Prelude.{◌++◌, length, drop, refl, sym, ◌∙◌, subst, append-nil, append_assoc, slice_get, slice_index, AllByRecursion}
+use Rattle.dna_play.proofs.Prelude.{drop-nil, flat_map-append, same_Some, MAX_MESSAGE, Record, User, All-behind, IsLink, IsRecord, BeginsWith}
+use Rattle.dna_play.proofs.Prelude.{Piece, LinkOf, LinkEventValue, Open, In, TrueSegments, given_address, handed_in, behind, IsRead, IsCut}
+use Rattle.dna_play.proofs.Prelude.{HeldFrom, link_event_in, link_events, complete, given_again, HoldsAt, IsPassed, delivered_is, passed_delivered}
+use Rattle.dna_play.proofs.Prelude.{passed_begins}
 use Rattle.capture_record.specs.declared.event.Event.TheVariants as events
-use Rattle.capture_record.specs.declared.limit.TheConstants.{MAX_MESSAGE}
-use Rattle.capture_record.specs.declared.record.Record.{Record}
-use Rattle.capture_record.specs.declared.record.Record.TheVariants.{User}
-use Rattle.capture.proofs.SoFarLaws.{All-behind}
-use Rattle.capture_record.specs.Range.{IsLink, IsRecord}
-use Rattle.two_nodes.specs.Beginning.{BeginsWith}
-use Rattle.dna_links.specs.Segmentation.{Piece}
-use Rattle.dna_links.specs.Links.{LinkOf}
-use Rattle.dna_links.specs.User.{LinkEventValue, Open, Accept, Reject, In}
-use Rattle.dna_links.specs.TrueSegments.{TrueSegments}
-use Rattle.dna_links.specs.Captures.{given_address, gives_address, message_in, handed_in, behind, IsRead}
-use Rattle.dna_links.specs.Delivery.{IsCut, HeldFrom}
-use Rattle.dna_node.specs.LayersPair.{link_event_in, link_events}
-use Rattle.dna_play.specs.Receipt.{complete}
-use Rattle.dna_links.proofs.Runs.Reads.{given_again, HoldsAt}
-use Rattle.dna_links.proofs.Runs.Pieces.{IsPassed, delivered_is, passed_delivered, passed_begins}
+use Rattle.dna_links.specs.User.{Accept, Reject}
+use Rattle.dna_links.specs.Captures.{gives_address, message_in}
 use Rattle.dna_play.proofs.EachElement.{first_all, more_all, there}
 use Rattle.dna_play.proofs.Played.PlayLines.{line_tested}
 use Rattle.dna_play.proofs.Ends.UpsFollow.{AllLined, delivering, delivers_next}

@@ -1,14 +1,6 @@
 -- In every run the head of an end stays, and the numbers of its links are in order.
-use Rattle.std.proofs.Common.{◌≡◌, List, refl, ◌∙◌}
-use Rattle.two_nodes.specs.Nodes.{Half, World, Run, Done, OfA, OfB}
-use Rattle.capture_record.specs.declared.record.Record.{Record}
-use Rattle.dna_node.specs.TagRules.{Rules, judged}
-use Rattle.dna_links.specs.Bounds.{AreLinksBounded}
-use Rattle.dna_links.specs.Runs.{LinkSide}
-use Rattle.dna_node.specs.Layers.{LayersNode, LayersUnit}
-use Rattle.dna_node.specs.LayersPair.{layers_pair}
-use Rattle.dna_node.proofs.OnTop.{OnTop, Counted}
-use Rattle.dna_node.proofs.Follows.{follows}
+use Rattle.dna_play.proofs.Prelude.{◌≡◌, List, refl, ◌∙◌, Half, World, Run, Done, OfA, OfB, Record, Rules, judged, AreLinksBounded, LinkSide}
+use Rattle.dna_play.proofs.Prelude.{LayersNode, LayersUnit, layers_pair, OnTop, Counted, follows}
 use Rattle.dna_play.proofs.Ends.Stage.{HasNumbers}
 
 -- ---- the addresses of a head stay

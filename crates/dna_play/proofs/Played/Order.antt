@@ -1,12 +1,7 @@
 -- Records that start a side so often, and give its link addresses in order; a delivery starts nothing and gives no address.
-use Rattle.std.proofs.Common.{◌≡◌, ℕ, ◌+◌, List, [], ◌∷◌, ◌++◌, refl, sym, ap, subst, arith}
-use Rattle.std.proofs.lemmas.Grind.{flat_map-append}
-use Rattle.capture_record.specs.declared.record.Record.{Record}
-use Rattle.dna_links.specs.User.{LinkEventValue}
-use Rattle.dna_links.specs.Captures.{given_address}
-use Rattle.dna_node.specs.LayersPair.{link_event_in, link_events}
-use Rattle.dna_play.specs.StoredPlay.{ups}
-use Rattle.dna_node.proofs.Once.Orderly.{higher, highest, highest-join, AddressesRise, starts, starts-join}
+use Rattle.dna_play.proofs.Prelude.{◌≡◌, ℕ, ◌+◌, List, [], ◌∷◌, ◌++◌, refl, sym, ap, subst, arith, flat_map-append, Record, LinkEventValue}
+use Rattle.dna_play.proofs.Prelude.{given_address, link_event_in, link_events, ups, higher, highest, highest-join, AddressesRise, starts}
+use Rattle.dna_play.proofs.Prelude.{starts-join}
 use Rattle.dna_play.proofs.Ends.TrueEnd.{End}
 
 -- these records start so often, and give their addresses in order, from this one on to that one

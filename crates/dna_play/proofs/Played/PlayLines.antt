@@ -1,16 +1,10 @@
 -- The test whether a record has a line tells just that.
-use Rattle.std.proofs.Common.{◌≡◌, ℕ, Bool, true, ◌&&◌, length, refl, le-leb, leb-true, ◌↔◌, nat_le}
-use Rattle.std.specs.Cmp.Derive.{both_true}
-use Rattle.std.proofs.lemmas.Bool.{and_parts}
-use Rattle.std.proofs.lemmas.Bool.Decides.{Decides-and}
-use Rattle.capture_record.specs.declared.limit.TheConstants.{MAX_HINT, MAX_LINK}
-use Rattle.capture_record.specs.declared.event.Event.{Event}
-use Rattle.capture_record.specs.declared.event.Event.TheVariants.{Start, Halt, Open, Accept, Reject, In, Up, Close}
-use Rattle.capture_record.specs.declared.event.Event.TheVariants.{Boot, Abort, Composed, Interrupt, Interrupted}
-use Rattle.capture_record.specs.declared.record.Record.{Record}
-use Rattle.capture_record.specs.declared.record.Record.TheVariants.{Received, User}
-use Rattle.capture_record.specs.Range.{IsLink, EventNumbersFit, NumbersFit, IsRecord, record_bytes, most_bytes}
-use Rattle.dna_play.specs.HasLine.{is_link, event_numbers_fit, numbers_fit, are_bytes, has_line}
+use Rattle.dna_play.proofs.Prelude.{◌≡◌, ℕ, Bool, true, ◌&&◌, length, refl, le-leb, leb-true, ◌↔◌, nat_le, both_true, and_parts, Decides-and}
+use Rattle.dna_play.proofs.Prelude.{MAX_HINT, MAX_LINK, Event, Up, Composed, Interrupt, Interrupted, Record, Received, User, IsLink}
+use Rattle.dna_play.proofs.Prelude.{EventNumbersFit, NumbersFit, IsRecord, record_bytes, most_bytes, is_link, event_numbers_fit, numbers_fit}
+use Rattle.dna_play.proofs.Prelude.{are_bytes, has_line}
+use Rattle.capture_record.specs.declared.event.Event.TheVariants.{Start, Halt, Open, Accept, Reject, In, Close}
+use Rattle.capture_record.specs.declared.event.Event.TheVariants.{Boot, Abort}
 use Rattle.dna_play.proofs.Bytes.{bytes_told, bytes_tested}
 
 -- two tests

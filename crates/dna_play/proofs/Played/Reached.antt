@@ -1,23 +1,12 @@
 -- What a script plays, step by step: the one induction over its steps. What holds before any step, and is kept by each step that is made, holds of
 -- all that is reached. What holds of side a holds of side b too, with the sides exchanged.
-use Rattle.std.proofs.Common.{◌≡◌, ℕ, ◌+◌, ◌≤◌, Option, Some, None, List, [], ◌∷◌, ◌++◌, length, take, Result, Ok, Err, refl, sym, ap, ◌∙◌, subst}
-use Rattle.std.proofs.Common.{append-nil, append_assoc, length-append, arith}
-use Rattle.std.specs.Prelude.{slice_get, option_map, ok_or}
-use Rattle.std.specs.List.{AllByRecursion}
+use Rattle.dna_play.proofs.Prelude.{◌≡◌, ℕ, ◌+◌, ◌≤◌, Option, Some, None, List, [], ◌∷◌, ◌++◌, length, take, Result, Ok, Err, refl, sym, ap, ◌∙◌}
+use Rattle.dna_play.proofs.Prelude.{subst, append-nil, append_assoc, length-append, arith, slice_get, option_map, ok_or, AllByRecursion}
+use Rattle.dna_play.proofs.Prelude.{take-append_seam, next_at, World, exchanged_world, Side, A, B, All-behind, LayersNode, LayersUnit, StepValue}
+use Rattle.dna_play.proofs.Prelude.{ScriptStep, Script, Stop, BadStep, Stopped, if_made, plays_all, StoredStepped, stored_plays, StoredPlayed}
+use Rattle.dna_play.proofs.Prelude.{own_side, played_after, stored_plays_step, Played, makes_all, not_begun, made_by, plays_step, play, starts_now}
+use Rattle.dna_play.proofs.Prelude.{starts_of}
 use Rattle.std.proofs.Math.Nat.{add-zero}
-use Rattle.std.proofs.Math.Seq.{take-append_seam}
-use Rattle.two_nodes.proofs.Listed.{next_at}
-use Rattle.two_nodes.specs.Nodes.{World, exchanged_world}
-use Rattle.wire_base.specs.declared.side.Side.{Side}
-use Rattle.wire_base.specs.declared.side.Side.TheVariants.{A, B}
-use Rattle.capture.proofs.SoFarLaws.{All-behind}
-use Rattle.dna_node.specs.Layers.{LayersNode, LayersUnit}
-use Rattle.dna_play.specs.Script.{StepValue, ScriptStep, Script}
-use Rattle.dna_play.specs.Stop.{Stop, BadStep, Stopped, if_made, plays_all}
-use Rattle.dna_play.specs.StoredPlay.{StoredStepped, stored_plays}
-use Rattle.dna_play.specs.StoredPlayed.{StoredPlayed, own_side, played_after, stored_plays_step}
-use Rattle.dna_play.specs.Played.{Played, makes_all, not_begun, made_by, plays_step, play}
-use Rattle.dna_play.specs.PlayRun.{starts_now, starts_of}
 use Rattle.dna_play.proofs.Played.Steps.{PlayHalf, MakesAll, made_all}
 use Rattle.dna_play.proofs.Played.Walk.{IfMade}
 

@@ -1,22 +1,10 @@
 -- In a script that starts each side at most once the next step goes by its rule, and the nodes make all that its end makes.
-use Rattle.std.proofs.Common.{◌≡◌, [], ◌∷◌, take, Result, Ok, Err, subst, arith, length-append}
-use Rattle.wire_base.specs.declared.side.Side.{Side}
-use Rattle.wire_base.specs.declared.side.Side.TheVariants.{A, B}
-use Rattle.capture.proofs.SoFarLaws.{All-behind}
-use Rattle.dna_play.specs.Script.{StepValue, ScriptStep, Script}
-use Rattle.dna_play.specs.ScriptText.{IsStep, IsScript}
-use Rattle.dna_play.specs.Stop.{Stop, BadStep, Full, Stopped}
-use Rattle.dna_play.specs.StoredPlay.{StoredStepped, stored_plays}
-use Rattle.dna_play.specs.StoredPlayed.{own_side, stored_plays_step}
-use Rattle.dna_play.specs.Played.{Played, made_by, plays_step, play}
-use Rattle.dna_play.specs.PlayRun.{StartsOnce}
-use Rattle.dna_play.specs.StepRule.{StepsByRule, StopsByRule, and_then}
-use Rattle.dna_play.proofs.Played.Steps.{all_made}
+use Rattle.dna_play.proofs.Prelude.{◌≡◌, [], ◌∷◌, take, Result, Ok, Err, subst, arith, length-append, Side, A, B, All-behind, StepValue, ScriptStep}
+use Rattle.dna_play.proofs.Prelude.{Script, IsStep, IsScript, Stop, BadStep, Full, Stopped, StoredStepped, stored_plays, own_side}
+use Rattle.dna_play.proofs.Prelude.{stored_plays_step, Played, made_by, plays_step, play, StartsOnce, StepsByRule, StopsByRule, and_then}
+use Rattle.dna_play.proofs.{Played.Steps.all_made, Played.Facts.TrueEnds, Played.Facts.played_of, EachElement.first_all, Stored.Right.IsRight}
 use Rattle.dna_play.proofs.Played.Reached.{Progress, progress_of, exchanged_progress, exchanged, each_later, whole_reached, stopped_reached}
-use Rattle.dna_play.proofs.Played.Facts.{TrueEnds, played_of}
 use Rattle.dna_play.proofs.Played.Stages.{Standing, standing_exchange, reached_standing, right_of_a}
-use Rattle.dna_play.proofs.EachElement.{first_all}
-use Rattle.dna_play.proofs.Stored.Right.{IsRight}
 
 -- ---- a step
 

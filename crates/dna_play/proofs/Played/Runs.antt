@@ -1,30 +1,13 @@
 -- What a script plays is a run of nodes that ask no rule on tags, and each record has a line; it starts each side so often as its steps do, and gives
 -- link addresses in order.
-use Rattle.std.proofs.Common.{◌≡◌, ◌≤◌, Bool, true, Some, None, List, [], ◌∷◌, ◌++◌, Ok, Err, refl, ap, ◌∙◌, cond, append_assoc, append-nil, arith}
-use Rattle.std.specs.List.{AllByRecursion}
-use Rattle.std.proofs.lemmas.Option.{same_Some}
-use Rattle.two_nodes.specs.Nodes.{World, Run, Done, Outcome, Made, advance}
-use Rattle.two_nodes.proofs.Order.{one_more_of_a, exchange}
-use Rattle.capture_record.specs.declared.record.Record.{Record}
-use Rattle.capture_record.specs.Range.{IsRecord}
-use Rattle.capture.proofs.SoFarLaws.{All-push}
-use Rattle.dna_station.specs.declared.head.Head.{Head}
-use Rattle.dna_station.specs.declared.refusal.StepRefusal.{StepRefusal}
-use Rattle.dna_node.specs.TagRules.{by_bytes}
-use Rattle.dna_node.specs.Layers.{LayersNode, LayersUnit}
-use Rattle.dna_node.specs.LayersPair.{layers_start, bytes_pair}
-use Rattle.dna_play.specs.Script.{StepValue, ScriptStep, Script}
-use Rattle.dna_play.specs.HasLine.{has_line}
-use Rattle.dna_play.specs.Stop.{Stopped}
-use Rattle.dna_play.specs.Played.{end_step, made_half, makes}
-use Rattle.dna_play.specs.Played.{Played, not_begun, play}
-use Rattle.dna_play.specs.PlayRun.{starts_now, ArePlayed}
-use Rattle.dna_node.proofs.OnTop.{OnTop}
-use Rattle.dna_node.proofs.Follows.{follows}
-use Rattle.dna_play.proofs.Played.PlayLines.{line_told}
+use Rattle.dna_play.proofs.Prelude.{◌≡◌, ◌≤◌, Bool, true, Some, None, List, [], ◌∷◌, ◌++◌, Ok, Err, refl, ap, ◌∙◌, cond, append_assoc, append-nil}
+use Rattle.dna_play.proofs.Prelude.{arith, AllByRecursion, same_Some, World, Run, Done, Outcome, Made, advance, one_more_of_a, exchange, Record}
+use Rattle.dna_play.proofs.Prelude.{IsRecord, All-push, Head, StepRefusal, by_bytes, LayersNode, LayersUnit, layers_start, bytes_pair, StepValue}
+use Rattle.dna_play.proofs.Prelude.{ScriptStep, Script, has_line, Stopped, end_step, made_half, makes, Played, not_begun, play, starts_now}
+use Rattle.dna_play.proofs.Prelude.{ArePlayed, OnTop, follows}
+use Rattle.dna_play.proofs.{Played.PlayLines.line_told, Played.Walk.stored_leaves}
 use Rattle.dna_play.proofs.Played.Steps.{PlayHalf, MakesAll, Nothing, First}
 use Rattle.dna_play.proofs.Played.Order.{InOrder, order_join, nothing_in_order}
-use Rattle.dna_play.proofs.Played.Walk.{stored_leaves}
 use Rattle.dna_play.proofs.Played.Reached.{Reached, Progress, progress_of, exchanged_progress, one_more, exchanged, StepOfA, reached_holds, each_step}
 use Rattle.dna_play.proofs.Played.Reached.{OfStep, whole_reached, stopped_reached}
 

@@ -1,9 +1,6 @@
 -- What an end of the player ever sent is still there after each step, and more behind it.
-use Rattle.std.proofs.Common.{◌≡◌, List, [], ◌++◌, refl, sym, ap, ◌∙◌, append_assoc, append-nil}
-use Rattle.capture_record.specs.declared.record.Record.{Record}
-use Rattle.dna_node.specs.TagRules.{by_bytes}
-use Rattle.dna_node.specs.Layers.{LayersUnit}
-use Rattle.dna_node.proofs.OnTop.{OnTop, ByStation, ByLinks, Again, Receipt, Counted, Unheard}
+use Rattle.dna_play.proofs.Prelude.{◌≡◌, List, [], ◌++◌, refl, sym, ap, ◌∙◌, append_assoc, append-nil, Record, by_bytes, LayersUnit, OnTop}
+use Rattle.dna_play.proofs.Prelude.{Again}
 use Rattle.dna_node.proofs.OnTop as on_top
 use Rattle.dna_play.proofs.Played.Steps.{PlayHalf, MakesAll, Nothing, First}
 use Rattle.dna_play.proofs.Played.Runs.{makes_on_top}

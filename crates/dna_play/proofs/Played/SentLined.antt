@@ -1,17 +1,6 @@
 -- What a node has sent by records that have lines can stand in a line: each unit on the line has no more bytes than one may hold.
-use Rattle.std.proofs.Common.{◌≡◌, ℕ, Some, List}
-use Rattle.std.specs.Prelude.{slice_get}
-use Rattle.std.specs.List.{AllByRecursion}
-use Rattle.two_nodes.specs.Nodes.{World, Run, Done, OfA, OfB}
-use Rattle.capture_record.specs.declared.record.Record.{Record}
-use Rattle.capture_record.specs.declared.record.Record.TheVariants.{Sent}
-use Rattle.capture_record.specs.Range.{IsRecord}
-use Rattle.dna_node.specs.TagRules.{judged}
-use Rattle.dna_node.specs.Layers.{LayersNode, LayersUnit}
-use Rattle.dna_node.specs.LayersPair.{layers_pair}
-use Rattle.dna_node.proofs.OnTop.{OnTop, Again, First}
-use Rattle.dna_node.proofs.Follows.{follows}
-use Rattle.dna_links.proofs.Runs.Sides.{all_pushed}
+use Rattle.dna_play.proofs.Prelude.{◌≡◌, ℕ, Some, List, slice_get, AllByRecursion, World, Run, Done, OfA, OfB, Record, Sent, IsRecord, judged}
+use Rattle.dna_play.proofs.Prelude.{LayersNode, LayersUnit, layers_pair, OnTop, Again, First, follows, all_pushed}
 use Rattle.dna_play.proofs.Played.Steps.{PlayHalf}
 
 -- each unit that was sent has a line

@@ -1,21 +1,8 @@
 -- What is whole of the links of a side has lines, where the records of both sides' users have.
-use Rattle.std.proofs.Common.{◌≡◌, ℕ, Some, List, [], drop}
-use Rattle.std.specs.Prelude.{slice_get}
-use Rattle.std.proofs.lemmas.Bool.{and_parts}
-use Rattle.dna_packet.specs.Nsp.{NspValue, DataSegment}
-use Rattle.dna_links.specs.declared.port.LinkTest.TheVariants.{ActedOn}
-use Rattle.dna_links.specs.LookUps.{is_at, is_connected, has_both}
-use Rattle.dna_links.specs.Links.{LinkOf}
-use Rattle.dna_links.specs.User.{LinkEventValue}
-use Rattle.dna_links.specs.TrueSegments.{TrueSegments}
-use Rattle.dna_links.specs.Delivery.{IsCut}
+use Rattle.dna_play.proofs.Prelude.{◌≡◌, ℕ, Some, List, [], drop, slice_get, and_parts, NspValue, DataSegment, ActedOn, is_at, is_connected}
+use Rattle.dna_play.proofs.Prelude.{has_both, LinkOf, LinkEventValue, TrueSegments, IsCut, LinkSide, complete, IsFound, at_is, IsSoundSide}
+use Rattle.dna_play.proofs.Prelude.{AreOwned}
 use Rattle.dna_play.proofs.Links.Pays as owing
-use Rattle.dna_links.specs.Runs.{LinkSide}
-use Rattle.dna_play.specs.Receipt.{complete}
-use Rattle.dna_links.proofs.Tables.Outcomes.{IsFound}
-use Rattle.dna_links.proofs.Runs.Reads.{at_is}
-use Rattle.dna_links.proofs.Runs.Sides.{IsSoundSide}
-use Rattle.dna_links.proofs.Runs.Owners.{AreOwned}
 use Rattle.dna_play.proofs.Ends.UpsFollow.{AllLined, IsLined}
 use Rattle.dna_play.proofs.Played.HandedLined.{AreMessages, EventsLined, link_handed_lined, address_lined, whole_lined, all_lined}
 

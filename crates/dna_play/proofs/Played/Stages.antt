@@ -1,26 +1,16 @@
 -- At any time of a script that starts each side at most once, both ends are read off ends with their nodes, of which holds all that lets an end send
 -- what it chooses and take what comes.
-use Rattle.std.proofs.Common.{◌≡◌, ℕ, ◌+◌, ◌≤◌, List, [], ◌++◌, length, refl, sym, ap, ◌∙◌, subst, arith}
-use Rattle.capture.specs.Range.{IsNode}
-use Rattle.dna_play.specs.Script.{ScriptStep, Script}
-use Rattle.dna_play.specs.ScriptText.{MAX_STEPS, IsStep, IsScript}
-use Rattle.dna_play.specs.StoredEnd.{StoredEnd}
-use Rattle.dna_play.specs.StoredPlay.{stored_plays}
-use Rattle.dna_play.specs.Played.{Played, head_a, head_b, not_begun}
-use Rattle.dna_play.specs.PlayRun.{StartsOnce}
-use Rattle.dna_play.proofs.Played.Steps.{one_end}
-use Rattle.dna_play.proofs.Played.SentGrows.{all_grows}
+use Rattle.dna_play.proofs.Prelude.{◌≡◌, ℕ, ◌+◌, ◌≤◌, List, [], ◌++◌, length, refl, sym, ap, ◌∙◌, subst, arith, IsNode, ScriptStep, Script}
+use Rattle.dna_play.proofs.Prelude.{MAX_STEPS, IsStep, IsScript, StoredEnd, stored_plays, Played, head_a, head_b, not_begun, StartsOnce}
+use Rattle.dna_play.proofs.{Played.Steps.one_end, Played.SentGrows.all_grows, Ends.Stage.Stage, Ends.Stage.new_stage, Stored.Now.StoredNow}
+use Rattle.dna_play.proofs.{Stored.Right.IsMade, Stored.Right.IsRight, Stored.Steps.step_right}
 use Rattle.dna_play.proofs.Played.Walk.{off_line, one_off, stored_leaves}
 use Rattle.dna_play.proofs.Played.Reached.{Reached, Progress, progress_of, exchanged_progress, one_more, exchanged, StepOfA, OfStep}
 use Rattle.dna_play.proofs.Played.Reached.{reached_holds}
 use Rattle.dna_play.proofs.Played.Runs.{Going, going_exchange, going_keeps, not_begun_going}
 use Rattle.dna_play.proofs.Played.Facts.{TrueEnds, played_of, later_a}
-use Rattle.dna_play.proofs.Ends.Stage.{Stage, new_stage}
 use Rattle.dna_play.proofs.Ends.TrueEnd.{End, stored, bytes_of, coming, new_end}
 use Rattle.dna_play.proofs.Stored.Left.{line_left, line_grows, longer, was_sent}
-use Rattle.dna_play.proofs.Stored.Now.{StoredNow}
-use Rattle.dna_play.proofs.Stored.Right.{IsMade, IsRight}
-use Rattle.dna_play.proofs.Stored.Steps.{step_right}
 
 -- of an end beside the other, after this many steps
 pub record IsAt (own other : End) (steps : ℕ) : Type 0 where

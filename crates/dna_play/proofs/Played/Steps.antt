@@ -1,11 +1,6 @@
 -- Records that are made by an end's node beside the other end's, one after another.
-use Rattle.std.proofs.Common.{◌≡◌, Option, Some, None, List, [], ◌∷◌, refl, sym, ap, subst, ◌∙◌}
-use Rattle.std.specs.Prelude.{option_and_then}
-use Rattle.std.proofs.lemmas.Option.{same_Some}
-use Rattle.two_nodes.specs.Nodes.{Half}
-use Rattle.capture_record.specs.declared.record.Record.{Record}
-use Rattle.dna_node.specs.Layers.{LayersNode, LayersUnit}
-use Rattle.dna_play.specs.Played.{makes, makes_all}
+use Rattle.dna_play.proofs.Prelude.{◌≡◌, Option, Some, None, List, [], ◌∷◌, refl, sym, ap, subst, ◌∙◌, option_and_then, same_Some, Half, Record}
+use Rattle.dna_play.proofs.Prelude.{LayersNode, LayersUnit, makes, makes_all}
 
 abbrev pub PlayHalf : Type 0
 PlayHalf = Half LayersNode LayersUnit

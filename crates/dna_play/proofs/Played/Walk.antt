@@ -1,43 +1,20 @@
 -- What any step of a script leaves that is made, whatever the end: the one walk over all kinds of step.
-use Rattle.std.proofs.Common.{◌≡◌, ℕ, ◌+◌, ◌≤◌, Bool, true, false, cond, nat_lt, nat_le, Option, Some, None, List, [], ◌∷◌, length, Result, Ok, Err}
-use Rattle.std.proofs.Common.{refl, subst, arith}
-use Rattle.std.specs.Prelude.{slice_get, if◌then◌else◌, ◌&&◌}
-use Rattle.std.proofs.lemmas.List.{length-map}
-use Rattle.ddcmp_msg.specs.Message.{MessageValue}
-use Rattle.ddcmp_msg.specs.Reading.{ReadingValue, HeaderBad, DataBad, reading}
-use Rattle.ddcmp_msg.specs.Spelling.{spelling}
-use Rattle.capture_record.specs.declared.event.Event.{Event}
+use Rattle.dna_play.proofs.Prelude.{◌≡◌, ℕ, ◌+◌, ◌≤◌, Bool, true, false, cond, nat_lt, nat_le, Option, Some, None, List, [], ◌∷◌, length, Result}
+use Rattle.dna_play.proofs.Prelude.{Ok, Err, refl, subst, arith, slice_get, if◌then◌else◌, ◌&&◌, length-map, MessageValue, ReadingValue, HeaderBad}
+use Rattle.dna_play.proofs.Prelude.{DataBad, reading, spelling, Event, Fate, Dropped, is_met, MAX_LINK, MAX_HINT, MAX_UNIT, MAX_MESSAGE, Record}
+use Rattle.dna_play.proofs.Prelude.{Sent, Noise, User, StationRefusal, user_refusal, Confirming, Disconnecting, LiveAt, CalledBy, is_calling}
+use Rattle.dna_play.proofs.Prelude.{is_connected, takes_messages, StepValue, starts_now, Debt, timer_debt, LinkOwed, ConfirmDuty, DisconnectDuty}
+use Rattle.dna_play.proofs.Prelude.{retried, LinkEnd, Choice, choice, link_choice, message_of, Stop, BadStep, Full, carried, is_damage, damaged}
+use Rattle.dna_play.proofs.Prelude.{StoredEnd, StoredStepped, unless_refused, if_so, timed, retrying, sends_message, sends_choice, all_short}
+use Rattle.dna_play.proofs.Prelude.{up_address, arrived, kept_or_not, receives, hears_as, with_next, stored_plays, is_of_line}
 use Rattle.capture_record.specs.declared.event.Event.TheVariants as events
-use Rattle.capture_record.specs.declared.fate.Fate.{Fate}
-use Rattle.capture_record.specs.declared.fate.Fate.TheVariants.{Dropped}
-use Rattle.capture_record.specs.Fates.{is_met}
-use Rattle.capture_record.specs.declared.limit.TheConstants.{MAX_LINK, MAX_HINT, MAX_UNIT, MAX_MESSAGE}
-use Rattle.capture_record.specs.declared.record.Record.{Record}
-use Rattle.capture_record.specs.declared.record.Record.TheVariants.{Sent, Noise, User}
-use Rattle.dna_station.specs.declared.refusal.StationRefusal.{StationRefusal}
 use Rattle.dna_station.specs.declared.state.StationEvent.TheVariants as station_events
-use Rattle.dna_station.specs.Table.{user_refusal}
-use Rattle.dna_links.specs.declared.port.Phase.TheVariants.{Confirming, Disconnecting}
-use Rattle.dna_links.specs.declared.port.LinkTest.TheVariants.{LiveAt, CalledBy}
-use Rattle.dna_links.specs.LookUps.{is_calling, is_connected, takes_messages}
 use Rattle.dna_play.specs.Script as script
-use Rattle.dna_play.specs.Script.{StepValue}
-use Rattle.dna_play.specs.PlayRun.{starts_now}
-use Rattle.dna_play.specs.Owed.{Debt, timer_debt}
-use Rattle.dna_play.specs.LinkOwed.{LinkOwed, ConfirmDuty, DisconnectDuty, retried}
-use Rattle.dna_play.specs.NextSent.{LinkEnd, Choice, choice, link_choice}
-use Rattle.dna_play.specs.Compose.{message_of}
-use Rattle.dna_play.specs.Stop.{Stop, BadStep, Full}
-use Rattle.dna_play.specs.Receipt.{carried, is_damage, damaged}
-use Rattle.dna_play.specs.StoredEnd.{StoredEnd}
 use Rattle.dna_play.specs.StoredStation as stations
 use Rattle.dna_play.specs.StoredLinks.{answered, opened}
-use Rattle.dna_play.specs.StoredPlay.{StoredStepped, unless_refused, answers, if_so, timed, retrying, sends_message, sends_choice, all_short}
-use Rattle.dna_play.specs.StoredPlay.{up_address, arrived, kept_or_not, receives, hears_as, with_next, stored_plays}
-use Rattle.dna_play.specs.StoredPlayed.{is_of_line}
-use Rattle.dna_play.proofs.Links.Looked.{looked}
+use Rattle.dna_play.specs.StoredPlay.{answers}
+use Rattle.dna_play.proofs.{Links.Looked.looked, Played.Order.InOrder, Played.Order.ups_in_order}
 use Rattle.dna_play.proofs.Links.Waiting.{NoMore, arrived_waits, begun_waits, changed_waits, choice_waits, fewer_wait, wait, waiting}
-use Rattle.dna_play.proofs.Played.Order.{InOrder, ups_in_order}
 
 -- how many units a step takes off the line
 abbrev pub off_line : StepValue → ℕ

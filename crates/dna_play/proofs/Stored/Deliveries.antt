@@ -1,30 +1,16 @@
 -- All that is whole of a link goes to the user at once: what the deliveries make of an end of the player. They change the segments of that link, and
 -- nothing else.
-use Rattle.std.proofs.Common.{◌≡◌, ℕ, ◌+◌, true, Some, List, [], ◌∷◌, ◌++◌, drop, refl, ap, ap₂, ◌∙◌, subst, append-nil, append_assoc}
-use Rattle.std.proofs.Common.{arith, ◌⊎◌, inl, inr, Ok, Err}
-use Rattle.std.specs.Prelude.{slice_get}
-use Rattle.std.proofs.lemmas.List.{drop-drop, set-set}
+use Rattle.dna_play.proofs.Prelude.{◌≡◌, ℕ, ◌+◌, true, Some, List, [], ◌∷◌, ◌++◌, drop, refl, ap, ap₂, ◌∙◌, subst, append-nil, append_assoc, arith}
+use Rattle.dna_play.proofs.Prelude.{◌⊎◌, inl, inr, Ok, Err, slice_get, drop-drop, set-set, Without, is_at, Whole, in_whole_messages, LinkOf}
+use Rattle.dna_play.proofs.Prelude.{changed, with_segments, TrueSegments, true_segments, Links, links_user, complete, ups, set_same, at_set, NoLink}
+use Rattle.dna_play.proofs.Prelude.{HasAddress}
 use Rattle.capture_record.specs.declared.event.Event.TheVariants as events
-use Rattle.dna_links.specs.declared.queue.Queues.TheVariants.{Without}
-use Rattle.dna_links.specs.LookUps.{is_at}
-use Rattle.dna_links.specs.Segmentation.{Whole, in_whole_messages}
-use Rattle.dna_links.specs.Links.{LinkOf, changed, with_segments}
 use Rattle.dna_links.specs.User as of_links
 use Rattle.dna_links.specs.inner.Forms as forms
-use Rattle.dna_links.specs.TrueSegments.{TrueSegments, true_segments}
-use Rattle.dna_links.specs.TrueLinks.{Links, links_user}
-use Rattle.dna_play.specs.Receipt.{complete}
-use Rattle.dna_play.specs.StoredPlay.{ups}
 use Rattle.dna_play.proofs.Played.Steps.{PlayHalf, MakesAll, Nothing, First}
-use Rattle.dna_links.proofs.Runs.Sides.{set_same, at_set}
-use Rattle.dna_play.proofs.Links.Pays.{found_at, with_found}
-use Rattle.dna_station.specs.declared.link_refusal.LinkRefusal.TheVariants.{NoLink}
-use Rattle.dna_links.specs.declared.port.LinkTest.TheVariants.{HasAddress}
-use Rattle.dna_play.proofs.Links.Made.{event_makes}
+use Rattle.dna_play.proofs.{Links.Pays.found_at, Links.Pays.with_found, Links.Made.event_makes, Ends.Stage.with_left, Links.Lists.set_back}
+use Rattle.dna_play.proofs.{Ends.TrueEnd.links_of}
 use Rattle.dna_play.proofs.Ends.UpsFollow.{delivering, delivers_next, AllLined, none_whole}
-use Rattle.dna_play.proofs.Ends.Stage.{with_left}
-use Rattle.dna_play.proofs.Links.Lists.{set_back}
-use Rattle.dna_play.proofs.Ends.TrueEnd.{links_of}
 
 -- ---- the segments
 

@@ -1,49 +1,27 @@
 -- What the user of an end of the player does with a link that has an address, and the timer of a link.
-use Rattle.std.proofs.Common.{◌≡◌, ℕ, true, Option, Some, None, List, length, Result, Err, arith, inl, refl, sym, ap, ◌∙◌, subst, le-leb, ◌&&◌}
-use Rattle.std.specs.Prelude.{nat_le, slice_get}
-use Rattle.std.proofs.lemmas.Bool.{and_parts}
-use Rattle.std.proofs.lemmas.Option.{same_Some}
-use Rattle.capture_record.specs.Range.{IsLink, IsRecord}
+use Rattle.dna_play.proofs.Prelude.{◌≡◌, ℕ, true, Option, Some, None, List, length, Result, Err, arith, inl, refl, sym, ap, ◌∙◌, subst, le-leb}
+use Rattle.dna_play.proofs.Prelude.{◌&&◌, nat_le, slice_get, and_parts, same_Some, IsLink, IsRecord, MAX_MESSAGE, User, LinkOf, changed, in_phase}
+use Rattle.dna_play.proofs.Prelude.{with_segments, takes_messages, is_live, is_at, ended, TrueSegments, true_segments, Links, LiveAt, Phase}
+use Rattle.dna_play.proofs.Prelude.{Disconnecting, Port, LinkOwed, DisconnectDuty, retried, with_duty, same_phase, unless_left, LinkEnd, StepValue}
+use Rattle.dna_play.proofs.Prelude.{Close, Abort, Retry, IsOneOf, HasLink, BadStep, Stop, StoredStepped, at_is, IsFound, IfSome}
 use Rattle.capture_record.specs.declared.event.Event.TheVariants as events
-use Rattle.capture_record.specs.declared.limit.TheConstants.{MAX_MESSAGE}
-use Rattle.capture_record.specs.declared.record.Record.TheVariants.{User}
-use Rattle.dna_links.specs.Links.{LinkOf, changed, in_phase, with_segments}
-use Rattle.dna_links.specs.LookUps.{takes_messages, is_live, is_at}
-use Rattle.dna_links.specs.Queues.{ended}
-use Rattle.dna_links.specs.TrueSegments.{TrueSegments, true_segments}
-use Rattle.dna_links.specs.TrueLinks.{Links}
 use Rattle.dna_links.specs.User as of_links
-use Rattle.dna_links.specs.declared.port.LinkTest.TheVariants.{LiveAt}
-use Rattle.dna_links.specs.declared.port.Phase.{Phase}
-use Rattle.dna_links.specs.declared.port.Phase.TheVariants.{Disconnecting}
-use Rattle.dna_links.specs.declared.port.Port.{Port}
-use Rattle.dna_play.specs.LinkOwed.{LinkOwed, DisconnectDuty, retried, with_duty, same_phase, unless_left}
-use Rattle.dna_play.specs.NextSent.{LinkEnd}
-use Rattle.dna_play.specs.Script.{StepValue, Close, Abort, Retry, In}
-use Rattle.dna_play.specs.StepRule.{IsOneOf, HasLink}
-use Rattle.dna_play.specs.Stop.{BadStep, Stop}
+use Rattle.dna_play.specs.Script.{In}
 use Rattle.dna_play.specs.StoredLinks as stored_link
-use Rattle.dna_play.specs.StoredPlay.{StoredStepped}
 use Rattle.dna_play.specs.StoredPlay as keeping
-use Rattle.dna_links.proofs.Runs.Reads.{at_is}
-use Rattle.dna_links.proofs.Tables.Outcomes.{IsFound}
-use Rattle.dna_play.proofs.Played.Steps.{Nothing}
+use Rattle.dna_play.proofs.{Played.Steps.Nothing, Links.Pays.end_of, Links.Pays.OwedFits, Ends.Stage.kept_stage, Ends.Stage.retried_fits}
+use Rattle.dna_play.proofs.{Bytes.bytes_tested, Stored.Now.StoredNow}
 use Rattle.dna_play.proofs.Links.Goes.{segments_go, handed_goes, connected_goes, ended_goes, stays_as_it_is}
 use Rattle.dna_play.proofs.Links.Keeps.{At, is_kept, link_there, kept_there, kept_of, live_at_lives, look}
 use Rattle.dna_play.proofs.Played.PlayLines.{bare_line}
 use Rattle.dna_play.proofs.Links.Made.{in_goes, close_goes, abort_goes, live_found}
 use Rattle.dna_play.proofs.Links.Owing.{still_same, still_fits, duty_fits, left_fits}
-use Rattle.dna_play.proofs.Links.Pays.{end_of, OwedFits}
 use Rattle.dna_play.proofs.Links.Phases.{Takes, Connected, Calls, Retried, calling_is, calls_when, takes_is, takes_when, connected_is, connected_when}
 use Rattle.dna_play.proofs.Links.Phases.{retries_live, IsRetried, retried_is}
 use Rattle.dna_play.proofs.Links.Stage.{set_holds, end_holds, owed_holds}
-use Rattle.dna_play.proofs.Ends.Stage.{kept_stage, retried_fits}
 use Rattle.dna_play.proofs.Ends.TrueEnd.{stored, End, links_of}
 use Rattle.dna_play.proofs.Stored.Made.{s, known, event_right}
-use Rattle.std.specs.Option.{IfSome}
 use Rattle.dna_play.proofs.Played.PlayLines.{line_tested}
-use Rattle.dna_play.proofs.Bytes.{bytes_tested}
-use Rattle.dna_play.proofs.Stored.Now.{StoredNow}
 use Rattle.dna_play.proofs.Stored.Right.{IsAsked, IsRight, kept_right, never_full, so_right}
 
 -- each of these phases is one of a link that lives

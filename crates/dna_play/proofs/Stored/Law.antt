@@ -1,30 +1,15 @@
 -- The ends alone play a script as they do with their nodes, and keep what these keep.
-use Rattle.std.proofs.Common.{◌≡◌, ℕ, Option, Some, None, List, [], ◌∷◌, ◌++◌, map, take, drop, length, Result, Ok}
-use Rattle.std.proofs.Common.{Err, refl, sym, ap, ◌∙◌, subst, arith, length-append}
-use Rattle.std.proofs.lemmas.List.{take-append-drop}
-use Rattle.std.specs.Prelude.{option_map, ok_or}
-use Rattle.std.specs.Result.{result_map_both}
-use Rattle.two_nodes.specs.Nodes.{World}
-use Rattle.wire_base.specs.declared.side.Side.{Side}
-use Rattle.wire_base.specs.declared.side.Side.TheVariants.{A, B}
-use Rattle.dna_node.specs.Layers.{LayersNode, LayersUnit}
-use Rattle.dna_play.specs.Script.{StepValue, ScriptStep, Script}
-use Rattle.dna_play.specs.ScriptText.{IsStep, IsScript}
-use Rattle.dna_play.specs.NextSent.{LinkEnd}
-use Rattle.dna_play.specs.Stop.{Stop, BadStep, Stopped, plays_all}
-use Rattle.dna_play.specs.Played.{Played, by_node, made_by, plays_step, play, ends_of}
-use Rattle.dna_play.specs.PlayRun.{of_end, of_link, live_links, IsOfNode, AreOfNodes, StartsOnce}
-use Rattle.dna_play.specs.StoredPlay.{StoredStepped}
-use Rattle.dna_play.specs.StoredPlayed.{StoredPlayed, played_after, stored_plays_step, stored_plays_on, stored_play}
-use Rattle.dna_node.proofs.Once.Addresses.{LinkList}
+use Rattle.dna_play.proofs.Prelude.{◌≡◌, ℕ, Option, Some, None, List, [], ◌∷◌, ◌++◌, map, take, drop, length, Result, Ok, Err, refl, sym, ap, ◌∙◌}
+use Rattle.dna_play.proofs.Prelude.{subst, arith, length-append, take-append-drop, option_map, ok_or, result_map_both, World, Side, A, B}
+use Rattle.dna_play.proofs.Prelude.{LayersNode, LayersUnit, StepValue, ScriptStep, Script, IsStep, IsScript, LinkEnd, Stop, BadStep, Stopped}
+use Rattle.dna_play.proofs.Prelude.{plays_all, Played, by_node, made_by, plays_step, play, ends_of, of_end, of_link, live_links, IsOfNode}
+use Rattle.dna_play.proofs.Prelude.{AreOfNodes, StartsOnce, StoredStepped, StoredPlayed, played_after, stored_plays_step, stored_plays_on}
+use Rattle.dna_play.proofs.Prelude.{stored_play, LinkList}
 use Rattle.dna_play.proofs.Links.Keeps.{Keeps, NoLink, Over, Lives}
 use Rattle.dna_play.proofs.Played.Reached.{Reached, NoStep, OneStep, Progress, each_later, starts_of-append, whole_reached, stopped_reached}
 use Rattle.dna_play.proofs.Played.Behind as behind
-use Rattle.dna_play.proofs.Played.Walk.{IfMade}
-use Rattle.dna_play.proofs.Played.Stages.{Standing, reached_standing}
-use Rattle.dna_play.proofs.Played.Ruled.{next_stops}
-use Rattle.dna_play.proofs.Ends.Stage.{Stage}
-use Rattle.dna_play.proofs.Ends.TrueEnd.{End, stored}
+use Rattle.dna_play.proofs.{Played.Walk.IfMade, Played.Stages.Standing, Played.Stages.reached_standing, Played.Ruled.next_stops, Ends.Stage.Stage}
+use Rattle.dna_play.proofs.{Ends.TrueEnd.End, Ends.TrueEnd.stored}
 
 -- ---- the ends alone
 

@@ -1,12 +1,9 @@
 -- What a step at one end leaves on both lines.
-use Rattle.std.proofs.Common.{add-zero, ◌≡◌, ℕ, ◌+◌, ◌≤◌, Bool, true, false, cond, List, ◌++◌, length, drop, sym, ap, ◌∙◌, arith, length-append}
-use Rattle.std.proofs.lemmas.List.{map-append, drop-drop, drop-append-le, drop_at, length-map, length-drop}
-use Rattle.dna_node.specs.Layers.{LayersUnit}
-use Rattle.dna_play.specs.Script.{StepValue}
-use Rattle.dna_play.specs.StoredPlayed.{is_of_line, left_by}
-use Rattle.dna_play.proofs.Played.Walk.{off_line}
-use Rattle.dna_play.proofs.Played.SentGrows.{Grows}
-use Rattle.dna_play.proofs.Ends.TrueEnd.{bytes_of}
+use Rattle.dna_play.proofs.Prelude.{add-zero, ◌≡◌, ℕ, ◌+◌, ◌≤◌, Bool, true, false, cond, List, ◌++◌, length, drop, sym, ap, ◌∙◌, arith}
+use Rattle.dna_play.proofs.Prelude.{length-append, map-append, drop-drop, drop-append-le, drop_at, length-map, LayersUnit, StepValue, is_of_line}
+use Rattle.dna_play.proofs.Prelude.{left_by}
+use Rattle.std.proofs.lemmas.List.{length-drop}
+use Rattle.dna_play.proofs.{Played.Walk.off_line, Played.SentGrows.Grows, Ends.TrueEnd.bytes_of}
 
 -- the unit that a step takes off the line is no longer on it
 pub line_left : (step : StepValue) (passed : ℕ) (units : List (List ℕ)) → drop (passed + off_line step) units ≡ left_by step (drop passed units)

@@ -1,36 +1,17 @@
 -- What the user of an end of the player does: a start, a halt, and what is done with its links, by what becomes of these.
-use Rattle.std.proofs.Common.{◌≡◌, ℕ, ◌≤◌, Bool, true, false, ◌&&◌, not, Some, refl, sym, ap, ◌∙◌, Ok, arith}
-use Rattle.capture_record.specs.declared.event.Event.{Event}
+use Rattle.dna_play.proofs.Prelude.{◌≡◌, ℕ, ◌≤◌, Bool, true, false, ◌&&◌, not, Some, refl, sym, ap, ◌∙◌, Ok, arith, Event, MAX_LINK, User, State}
+use Rattle.dna_play.proofs.Prelude.{Halted, StationEvent, does, user_refusal, StationVariables, Without, booted, true_segments, Links, links_user}
+use Rattle.dna_play.proofs.Prelude.{LinkEventValue, link_event, has_line, OwesStrt, Owed, same_state, all_acknowledged, still_owed, end_step, Start}
+use Rattle.dna_play.proofs.Prelude.{Halt, Boot, StepValue, StoredLinks, StoredEnd, StoredStation, no_stored_links}
 use Rattle.capture_record.specs.declared.event.Event.TheVariants as events
-use Rattle.capture_record.specs.declared.limit.TheConstants.{MAX_LINK}
-use Rattle.capture_record.specs.declared.record.Record.TheVariants.{User}
-use Rattle.dna_station.specs.declared.state.State.{State}
-use Rattle.dna_station.specs.declared.state.State.TheVariants.{Halted}
-use Rattle.dna_station.specs.declared.state.StationEvent.{StationEvent}
 use Rattle.dna_station.specs.declared.state.StationEvent.TheVariants as station_events
-use Rattle.dna_station.specs.Machine.{does}
-use Rattle.dna_station.specs.Table.{user_refusal}
-use Rattle.dna_station.specs.WireStation.{StationVariables}
-use Rattle.dna_links.specs.declared.queue.Queues.TheVariants.{Without}
-use Rattle.dna_links.specs.Queues.{booted}
-use Rattle.dna_links.specs.TrueSegments.{true_segments}
-use Rattle.dna_links.specs.TrueLinks.{Links, links_user}
-use Rattle.dna_links.specs.User.{LinkEventValue}
-use Rattle.dna_node.specs.Content.{link_event}
-use Rattle.dna_play.specs.HasLine.{has_line}
-use Rattle.dna_play.specs.Owed.{OwesStrt, Owed, same_state, all_acknowledged, still_owed}
-use Rattle.dna_play.specs.Played.{end_step}
-use Rattle.dna_play.specs.Script.{Start, Halt, Boot, StepValue}
-use Rattle.dna_play.specs.StoredEnd.{StoredLinks, StoredEnd, StoredStation, no_stored_links}
 use Rattle.dna_play.specs.StoredPlay.{with_links}
 use Rattle.dna_play.specs.StoredPlay as keeping
 use Rattle.dna_play.specs.StoredStation as stored_station
-use Rattle.dna_play.proofs.Played.Steps.{Nothing, First}
+use Rattle.dna_play.proofs.{Played.Steps.Nothing, Played.Steps.First, Links.Made.IsOfLinks, Links.Made.event_makes, Links.Stage.LinkHolds}
+use Rattle.dna_play.proofs.{Links.Stage.booted_holds, Stored.Now.StoredNow, Stored.Now.facts_of}
 use Rattle.dna_play.proofs.Ends.Stage.{Known, with_left, with_event, links_stage, start_event_stage, halt_event_stage, strt_stage}
-use Rattle.dna_play.proofs.Links.Made.{IsOfLinks, event_makes}
-use Rattle.dna_play.proofs.Links.Stage.{LinkHolds, booted_holds}
 use Rattle.dna_play.proofs.Ends.TrueEnd.{stored, End, station_of, links_of, after_record, variables_of, owing_more}
-use Rattle.dna_play.proofs.Stored.Now.{StoredNow, facts_of}
 use Rattle.dna_play.proofs.Stored.Right.{IsAsked, HasNoRoom, IsRight, kept_right, never_full}
 
 -- ---- the station, where nothing becomes of it

@@ -1,27 +1,15 @@
 -- Bytes that nobody sent: an end of the player hears them exactly where a block check shows that they are damaged.
-use Rattle.capture_record.specs.declared.limit.TheConstants.{MAX_UNIT}
+use Rattle.dna_play.proofs.Prelude.{MAX_UNIT, Noise, ReadingValue, reading, le-leb, ◌≡◌, ℕ, List, length, refl, sym, ap, ◌∙◌, inl, inr, false}
+use Rattle.dna_play.proofs.Prelude.{IsRecord, StoredStation, arrival_debt, end_step, IsNoise, after_arrival, Made, advance}
 use Rattle.capture_record.specs.declared.record.Record.TheVariants as recorded
-use Rattle.capture_record.specs.declared.record.Record.TheVariants.{Noise}
 use Rattle.ddcmp_msg.specs.Reading as read_as
-use Rattle.ddcmp_msg.specs.Reading.{ReadingValue, reading}
 use Rattle.dna_play.proofs.Ends.DamagedUnits.{ShownDamage, OfHeader, OfData, read_of, arrival_of}
-use Rattle.dna_play.proofs.Ends.Stage.{station_stage, with_station}
+use Rattle.dna_play.proofs.{Ends.Stage.station_stage, Ends.Stage.with_station, Played.Runs.line_makes, Stored.Now.StoredNow, Stored.Now.facts_of}
+use Rattle.dna_play.proofs.{Played.PlayLines.line_tested, Stored.Stations.station_came}
 use Rattle.dna_play.proofs.Ends.StationStage.{came_stage, came_packets, ComesHurt}
-use Rattle.dna_play.proofs.Played.Runs.{line_makes}
 use Rattle.dna_play.proofs.Played.Steps.{PlayHalf, Nothing, First}
-use Rattle.dna_play.proofs.Stored.Now.{StoredNow, facts_of}
-use Rattle.std.proofs.Common.{le-leb, ◌≡◌, ℕ, List, length, refl, sym, ap, ◌∙◌, inl, inr, false}
-use Rattle.capture_record.specs.Range.{IsRecord}
-use Rattle.dna_play.proofs.Played.PlayLines.{line_tested}
-use Rattle.dna_play.proofs.Stored.Stations.{station_came}
-use Rattle.dna_play.specs.StoredEnd.{StoredStation}
-use Rattle.dna_play.specs.Owed.{arrival_debt}
 use Rattle.dna_play.specs.StoredPlay as keeping
-use Rattle.dna_play.specs.Played.{end_step}
 use Rattle.dna_play.specs.Script.{Noise}
-use Rattle.dna_play.specs.StepRule.{IsNoise}
-use Rattle.dna_station.specs.StationBook.{after_arrival}
-use Rattle.two_nodes.specs.Nodes.{Made, advance}
 use Rattle.dna_play.proofs.Stored.Right.{IsRight, kept_right, never_full}
 use Rattle.dna_play.proofs.Ends.TrueEnd.{stored, End, variables_of, station_of, after_record, owing_more}
 

@@ -1,12 +1,7 @@
 -- What is known of an end of the player beside the other when a step is made.
-use Rattle.std.specs.Prelude.{◌≤◌}
-use Rattle.std.proofs.Common.{[]}
-use Rattle.capture_record.specs.declared.limit.TheConstants.{MAX_HINT}
-use Rattle.dna_play.proofs.Ends.Stage.{Stage}
-use Rattle.dna_play.proofs.Played.Facts.{Later, Facts}
-use Rattle.dna_play.proofs.Played.Steps.{Nothing}
-use Rattle.dna_play.proofs.Played.Order.{nothing_in_order}
-use Rattle.dna_play.proofs.Ends.TrueEnd.{End}
+use Rattle.dna_play.proofs.Prelude.{◌≤◌, [], MAX_HINT}
+use Rattle.dna_play.proofs.{Ends.Stage.Stage, Played.Facts.Later, Played.Facts.Facts, Played.Steps.Nothing, Played.Order.nothing_in_order}
+use Rattle.dna_play.proofs.{Ends.TrueEnd.End}
 
 pub record StoredNow (own other : End) : Type 0 where
   pub stage : Stage own

@@ -1,49 +1,25 @@
 -- A link that the user of an end of the player opens, or whose call it answers.
-use Rattle.std.proofs.Common.{◌≡◌, ℕ, ◌+◌, ◌<◌, Bool, true, ◌&&◌, eqb, Some, None, Ok, Err, refl, sym, ap, ap₂, ◌∙◌, arith}
-use Rattle.std.specs.Prelude.{is_some}
-use Rattle.std.proofs.lemmas.Option.{same_Some}
-use Rattle.std.proofs.lemmas.Bool.{and_parts}
-use Rattle.capture_record.specs.Range.{IsLink}
-use Rattle.capture_record.specs.declared.event.Event.{Event}
+use Rattle.dna_play.proofs.Prelude.{◌≡◌, ℕ, ◌+◌, ◌<◌, Bool, true, ◌&&◌, eqb, Some, None, Ok, Err, refl, sym, ap, ap₂, ◌∙◌, arith, is_some}
+use Rattle.dna_play.proofs.Prelude.{same_Some, and_parts, IsLink, Event, MAX_LINK, User, Without, LinkOf, number_of, changed, begun, passes}
+use Rattle.dna_play.proofs.Prelude.{is_live, is_called, is_at, SEGSIZE, TrueSegments, true_segments, Links, links_user, LinkEventValue, CalledBy}
+use Rattle.dna_play.proofs.Prelude.{Phase, Confirming, Disconnecting, link_event, has_line, LinkOwed, InitiateDuty, ConfirmDuty, DisconnectDuty}
+use Rattle.dna_play.proofs.Prelude.{with_duty, Duty, nothing, same_phase, unless_left, LinkEnd, Accept, Reject, StepValue, IsCalled, gives_address}
+use Rattle.dna_play.proofs.Prelude.{BadStep, at_is, IsFound, LinkList}
 use Rattle.capture_record.specs.declared.event.Event.TheVariants as events
-use Rattle.capture_record.specs.declared.limit.TheConstants.{MAX_LINK}
-use Rattle.capture_record.specs.declared.record.Record.TheVariants.{User}
-use Rattle.dna_links.specs.declared.queue.Queues.TheVariants.{Without}
-use Rattle.dna_links.specs.Links.{LinkOf, number_of, changed, begun}
-use Rattle.dna_links.specs.LookUps.{passes, is_live, is_called, is_at}
-use Rattle.dna_links.specs.Segmentation.{SEGSIZE}
-use Rattle.dna_links.specs.TrueSegments.{TrueSegments, true_segments}
-use Rattle.dna_links.specs.TrueLinks.{Links, links_user}
-use Rattle.dna_links.specs.User.{LinkEventValue}
 use Rattle.dna_links.specs.User as of_links
 use Rattle.dna_links.specs.inner.Forms as forms
-use Rattle.dna_links.specs.declared.port.LinkTest.TheVariants.{CalledBy}
-use Rattle.dna_links.specs.declared.port.Phase.{Phase}
-use Rattle.dna_links.specs.declared.port.Phase.TheVariants.{Confirming, Disconnecting}
-use Rattle.dna_node.specs.Content.{link_event}
-use Rattle.dna_play.specs.HasLine.{has_line}
-use Rattle.dna_play.specs.LinkOwed.{LinkOwed, InitiateDuty, ConfirmDuty, DisconnectDuty, with_duty, Duty, nothing, same_phase, unless_left}
-use Rattle.dna_play.specs.NextSent.{LinkEnd}
-use Rattle.dna_play.specs.Script.{Open, Accept, Reject, StepValue}
-use Rattle.dna_play.specs.StepRule.{IsCalled, gives_address}
-use Rattle.dna_play.specs.Stop.{BadStep}
+use Rattle.dna_play.specs.Script.{Open}
 use Rattle.dna_play.specs.StoredLinks as stored_link
 use Rattle.dna_play.specs.StoredPlay.{with_links}
 use Rattle.dna_play.specs.StoredPlay as keeping
-use Rattle.dna_links.proofs.Runs.Reads.{at_is}
-use Rattle.dna_links.proofs.Tables.Outcomes.{IsFound}
-use Rattle.dna_node.proofs.Once.Addresses.{LinkList}
-use Rattle.dna_play.proofs.Links.Goes.{answered_goes}
+use Rattle.dna_play.proofs.{Links.Goes.answered_goes, Played.PlayLines.bare_line, Links.Phases.called_is, Links.Stage.push_holds}
+use Rattle.dna_play.proofs.{Links.Stage.set_holds, Stored.Now.StoredNow}
 use Rattle.dna_play.proofs.Links.Keeps.{At, is_kept, link_there, kept_there, kept_of, called_by_lives, look}
-use Rattle.dna_play.proofs.Played.PlayLines.{bare_line}
 use Rattle.dna_play.proofs.Links.Made.{IsOfLinks, open_goes, answer_goes}
 use Rattle.dna_play.proofs.Links.Owing.{duty_fits, nothing_fits, left_fits}
 use Rattle.dna_play.proofs.Links.Pays.{end_of, is_there, some_found, fits_in, phase_of}
-use Rattle.dna_play.proofs.Links.Phases.{called_is}
-use Rattle.dna_play.proofs.Links.Stage.{push_holds, set_holds}
 use Rattle.dna_play.proofs.Ends.TrueEnd.{stored, End, links_of}
 use Rattle.dna_play.proofs.Stored.Made.{s, known, event_right}
-use Rattle.dna_play.proofs.Stored.Now.{StoredNow}
 use Rattle.dna_play.proofs.Stored.Right.{IsAsked, HasNoRoom, IsRight, giving_right}
 
 module _ (own other : End) (now : StoredNow own other) where

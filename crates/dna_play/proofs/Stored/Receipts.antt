@@ -1,56 +1,23 @@
 -- What comes to an end of the player: a unit as it was sent, with a buffer or without one, or damaged; with what its user gets then.
-use Rattle.std.proofs.Common.{◌≡◌, ℕ, ◌+◌, Bool, true, false, ◌&&◌, cond, Option, Some, None, List, [], ◌∷◌, Ok, Err, refl, sym, ap, ◌∙◌, subst}
-use Rattle.std.proofs.Common.{le-leb, length, length-set, arith, ◌≤◌}
-use Rattle.std.specs.Prelude.{slice_get}
-use Rattle.ddcmp_msg.specs.Reading.{ReadingValue, reading}
+use Rattle.dna_play.proofs.Prelude.{◌≡◌, ℕ, ◌+◌, Bool, true, false, ◌&&◌, cond, Option, Some, None, List, [], ◌∷◌, Ok, Err, refl, sym, ap, ◌∙◌}
+use Rattle.dna_play.proofs.Prelude.{subst, le-leb, length, length-set, arith, ◌≤◌, slice_get, ReadingValue, reading, NspValue, MAX_HINT, MAX_UNIT}
+use Rattle.dna_play.proofs.Prelude.{Fate, NotKept, Kept, Dropped, is_kept, is_met, Received, ArrivalValue, Sound, Station, after_arrival}
+use Rattle.dna_play.proofs.Prelude.{StationVariables, Links, SentMessage, side_of, LayersUnit, Layers, keeps, with_links, Owed, arrival_debt}
+use Rattle.dna_play.proofs.Prelude.{can_take, with_debt, Deliver, Refuse, Drop, Damage, StepValue, makes, BadStep, carried, is_damage, damaged}
+use Rattle.dna_play.proofs.Prelude.{StoredEnd, StoredStation, can_keep, Delivering, arrived, if_so, kept_or_not}
+use Rattle.dna_play.proofs.Prelude.{with_next, checked, anyone_same, by_bytes, has_line, Truth, gives_address, IsHurt, and_parts, same_Some}
 use Rattle.ddcmp_msg.specs.Reading as read_as
-use Rattle.dna_packet.specs.Nsp.{NspValue}
-use Rattle.capture_record.specs.declared.limit.TheConstants.{MAX_HINT, MAX_UNIT}
-use Rattle.capture_record.specs.declared.fate.Fate.{Fate}
-use Rattle.capture_record.specs.declared.fate.Fate.TheVariants.{NotKept, Kept, Dropped}
-use Rattle.capture_record.specs.Fates.{is_kept, is_met}
-use Rattle.capture_record.specs.declared.record.Record.TheVariants.{Received}
-use Rattle.dna_station.specs.Book.{ArrivalValue, Sound}
-use Rattle.dna_station.specs.Station.{Station}
-use Rattle.dna_station.specs.StationBook.{after_arrival}
-use Rattle.dna_station.specs.WireStation.{StationVariables}
-use Rattle.dna_links.specs.TrueLinks.{Links}
-use Rattle.dna_links.specs.Runs.{SentMessage}
-use Rattle.dna_node.specs.LayersPair.{side_of}
-use Rattle.dna_node.specs.Layers.{LayersUnit, Layers, keeps, with_links}
-use Rattle.dna_play.specs.Owed.{Owed, arrival_debt, can_take, with_debt}
-use Rattle.dna_play.specs.Script.{Deliver, Refuse, Drop, Damage, StepValue}
-use Rattle.dna_play.specs.Played.{makes}
-use Rattle.dna_play.specs.Stop.{BadStep}
-use Rattle.dna_play.specs.Receipt.{carried, is_damage, damaged}
 use Rattle.dna_play.proofs.Ends.TrueEnd as true_end
-use Rattle.dna_play.specs.StoredEnd.{StoredEnd, StoredStation}
-use Rattle.dna_play.specs.StoredStation.{can_keep}
-use Rattle.dna_play.specs.StoredLinks.{Delivering}
-use Rattle.dna_play.specs.StoredPlay.{arrived, up_address, ups, came_as, if_so, kept_or_not, with_next}
 use Rattle.dna_play.specs.StoredPlay as keeping
-use Rattle.dna_links.proofs.Tables.Outcomes.{checked}
-use Rattle.dna_node.proofs.Once.AddressRuns.{anyone_same}
-use Rattle.dna_play.proofs.Played.Steps.{Nothing, First}
-use Rattle.dna_play.proofs.Played.Order.{quiet}
-use Rattle.dna_play.proofs.Played.Facts.{Facts}
+use Rattle.dna_play.proofs.{Played.Steps.Nothing, Played.Steps.First, Played.Order.quiet, Played.Facts.Facts, Ends.ReceiptStage.ends_hold}
+use Rattle.dna_play.proofs.{Played.Runs.line_makes, Stored.Now.StoredNow, Stored.Now.facts_of, Stored.Stations.station_came, Bytes.bytes_tested}
+use Rattle.dna_play.proofs.{Bytes.damaged_bytes}
 use Rattle.dna_play.proofs.Ends.DamagedUnits.{Damaged, damage_is_seen, ShownDamage, OfHeader, OfData, read_of, arrival_of, damage_of, hurt_of}
 use Rattle.dna_play.proofs.Ends.DamagedUnits.{is_hurt}
 use Rattle.dna_play.proofs.Ends.ReceiptMakes.{damage_made, judged_takes, links_take, taken_is_data, within, unit_made}
-use Rattle.dna_node.specs.TagRules.{by_bytes}
-use Rattle.dna_play.specs.HasLine.{has_line}
-use Rattle.dna_station.specs.Truth.{Truth}
 use Rattle.dna_play.proofs.Ends.StationStage.{left_owed, came_stage, Comes, ComesSound, ComesHurt, came_packets}
-use Rattle.dna_play.proofs.Ends.ReceiptStage.{ends_hold}
-use Rattle.dna_play.proofs.Played.Runs.{line_makes}
-use Rattle.dna_play.proofs.Stored.Now.{StoredNow, facts_of}
-use Rattle.dna_play.proofs.Stored.Stations.{station_came}
 use Rattle.dna_play.proofs.Stored.Segments.{left_half, Got, nothing_got, message_got}
 use Rattle.dna_play.proofs.Stored.Right.{IsAsked, IsRight, kept_right, never_full, so_right, unit_right, next_is}
-use Rattle.dna_play.specs.StepRule.{gives_address, IsHurt}
-use Rattle.std.proofs.lemmas.Bool.{and_parts}
-use Rattle.std.proofs.lemmas.Option.{same_Some}
-use Rattle.dna_play.proofs.Bytes.{bytes_tested, damaged_bytes}
 use Rattle.dna_play.proofs.Ends.TrueEnd.{End, links_of, station_of, stored, coming}
 
 kept_is : (kept : Bool) → is_kept (kept_or_not kept) ≡ kept

@@ -1,22 +1,11 @@
 -- What is right of what a step of a script makes of an end, or of why it can't be made: it goes by the rule of the step, and the node of the end
 -- makes its records and keeps what the end keeps then. Each kind of step is looked at once for all of it.
-use Rattle.std.proofs.Common.{◌≡◌, ℕ, ◌<◌, Bool, true, false, cond, nat_lt, ltb-true, ltb-false, Option, Some, None, List, [], ◌∷◌, Result, Ok, Err}
-use Rattle.std.proofs.Common.{drop, length, refl, sym, subst, ap, ◌∙◌, add-zero}
-use Rattle.std.specs.Prelude.{slice_get, option_map}
-use Rattle.std.proofs.lemmas.Option.{same_Some, slice_get-map}
-use Rattle.two_nodes.proofs.NumberedSteps.{slice_get-drop}
-use Rattle.capture_record.specs.declared.limit.TheConstants.{MAX_LINK}
-use Rattle.capture_record.specs.declared.record.Record.{Record}
-use Rattle.dna_node.specs.Layers.{LayersUnit}
-use Rattle.dna_play.specs.Script.{StepValue}
-use Rattle.dna_play.specs.StoredEnd.{StoredEnd}
-use Rattle.dna_play.specs.StoredPlay.{StoredStepped, if_so, with_next}
-use Rattle.dna_play.specs.StepRule.{IsNext, HasNext, Asks, gives_address, IsFull}
-use Rattle.dna_play.specs.Stop.{BadStep, Stop, Full}
-use Rattle.dna_play.proofs.Played.Steps.{MakesAll}
-use Rattle.dna_play.proofs.Ends.Stage.{Stage}
+use Rattle.dna_play.proofs.Prelude.{◌≡◌, ℕ, ◌<◌, Bool, true, false, cond, nat_lt, ltb-true, ltb-false, Option, Some, None, List, [], ◌∷◌, Result}
+use Rattle.dna_play.proofs.Prelude.{Ok, Err, drop, length, refl, sym, subst, ap, ◌∙◌, add-zero, slice_get, option_map, same_Some, slice_get-map}
+use Rattle.dna_play.proofs.Prelude.{slice_get-drop, MAX_LINK, Record, LayersUnit, StepValue, StoredEnd, StoredStepped, if_so, with_next, IsNext}
+use Rattle.dna_play.proofs.Prelude.{HasNext, Asks, gives_address, IsFull, BadStep, Stop, Full}
+use Rattle.dna_play.proofs.{Played.Steps.MakesAll, Ends.Stage.Stage, Stored.Now.StoredNow}
 use Rattle.dna_play.proofs.Ends.TrueEnd.{End, stored, bytes_of, coming}
-use Rattle.dna_play.proofs.Stored.Now.{StoredNow}
 
 none_behind : (units : List LayersUnit) → drop (length units) (bytes_of units) ≡ []
 none_behind [] = refl

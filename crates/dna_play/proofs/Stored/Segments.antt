@@ -1,55 +1,26 @@
 -- What a message that came makes of the links of an end of the player, and what its user gets then, is what it makes of those that are kept.
-use Rattle.std.proofs.Common.{◌≡◌, ℕ, ◌+◌, true, Option, Some, List, [], ◌∷◌, Result, Ok, refl, sym, ap, ◌∙◌, subst, arith, le-leb}
-use Rattle.std.specs.Prelude.{slice_get, length}
-use Rattle.std.proofs.lemmas.Bool.{and_parts}
-use Rattle.std.proofs.lemmas.List.{drop-drop, set-set}
-use Rattle.dna_packet.specs.Nsp.{NspValue, SegmentValue, DataSegment}
+use Rattle.dna_play.proofs.Prelude.{◌≡◌, ℕ, ◌+◌, true, Option, Some, List, [], ◌∷◌, Result, Ok, refl, sym, ap, ◌∙◌, subst, arith, le-leb, slice_get}
+use Rattle.dna_play.proofs.Prelude.{length, and_parts, drop-drop, set-set, NspValue, SegmentValue, DataSegment, User, LinkRefusal, CrossedLink}
+use Rattle.dna_play.proofs.Prelude.{Station, Without, Running, LinkTest, ActedOn, is_connected, is_at, has_both, in_whole_messages, LinkOf}
+use Rattle.dna_play.proofs.Prelude.{LinkTruth, check, changed, in_phase, with_segments, of_partner, is_of_pair, message_arrived, running}
+use Rattle.dna_play.proofs.Prelude.{TrueSegments, Numbers, takes_segment, true_segments, Links, WireSegments, acknowledged_by_all, segment_taken}
+use Rattle.dna_play.proofs.Prelude.{IsOrdered, ArrivesNear, LinkOwed, DataAckDuty, with_duty, LinkEnd, complete, StoredLinks, Delivering}
+use Rattle.dna_play.proofs.Prelude.{delivering_none, delivering_at, took_segment, message_came, arrived, up_address, ups, all_short}
+use Rattle.dna_play.proofs.Prelude.{takes_segment_same, at_is, set_same, IsFound, checked, MAX_MESSAGE}
 use Rattle.capture_record.specs.declared.event.Event.TheVariants as events
-use Rattle.capture_record.specs.declared.record.Record.TheVariants.{User}
-use Rattle.dna_station.specs.declared.link_refusal.LinkRefusal.{LinkRefusal}
-use Rattle.dna_station.specs.declared.link_refusal.LinkRefusal.TheVariants.{CrossedLink}
-use Rattle.dna_station.specs.Station.{Station}
-use Rattle.dna_links.specs.declared.queue.Queues.TheVariants.{Without}
-use Rattle.dna_links.specs.declared.port.Phase.TheVariants.{Running}
-use Rattle.dna_links.specs.declared.port.LinkTest.{LinkTest}
-use Rattle.dna_links.specs.declared.port.LinkTest.TheVariants.{ActedOn}
-use Rattle.dna_links.specs.LookUps.{is_connected, is_at, has_both}
-use Rattle.dna_links.specs.Segmentation.{in_whole_messages}
-use Rattle.dna_links.specs.Links.{LinkOf, LinkTruth, check, changed, in_phase, with_segments}
-use Rattle.dna_links.specs.Arriving.{of_partner, is_of_pair, message_arrived}
-use Rattle.dna_links.specs.inner.Forms.{running}
-use Rattle.dna_links.specs.TrueSegments.{TrueSegments, Numbers, takes_segment, true_segments}
-use Rattle.dna_links.specs.TrueLinks.{Links}
-use Rattle.dna_links.specs.WireSegments.{WireSegments, acknowledged_by_all, segment_taken}
-use Rattle.dna_links.specs.CutSegments.{cut, IsOrdered}
-use Rattle.dna_links.specs.CutLinks.{ArrivesNear}
-use Rattle.dna_play.specs.LinkOwed.{LinkOwed, DataAckDuty, with_duty}
-use Rattle.dna_play.specs.NextSent.{LinkEnd}
-use Rattle.dna_play.specs.Receipt.{complete}
-use Rattle.dna_play.specs.StoredEnd.{StoredLinks}
-use Rattle.dna_play.specs.StoredLinks.{Delivering, delivering_none, delivering_at, took_segment, message_came}
+use Rattle.dna_links.specs.CutSegments.{cut}
 use Rattle.dna_play.specs.StoredLinks as keeping
-use Rattle.dna_play.specs.StoredPlay.{arrived, up_address, ups, all_short}
-use Rattle.dna_links.proofs.Cut.SegmentsArriving.{takes_segment_same}
-use Rattle.dna_links.proofs.Runs.Reads.{at_is}
-use Rattle.dna_links.proofs.Runs.Sides.{set_same}
-use Rattle.dna_links.proofs.Tables.Outcomes.{IsFound, checked}
 use Rattle.dna_play.proofs.Played.Steps.{PlayHalf, MakesAll, Nothing}
 use Rattle.dna_play.proofs.Links.Pays.{variables_of, end_of, OwedFits, found_at, with_found, without_found}
-use Rattle.dna_play.proofs.Links.Fits.{IsPlain}
+use Rattle.dna_play.proofs.{Links.Fits.IsPlain, Links.Stage.LinkHolds, Links.Stage.set_holds, Ends.Stage.ordered_of, Stored.Now.StoredNow}
+use Rattle.dna_play.proofs.{Stored.Now.facts_of, Ends.TrueEnd.End, Ends.TrueEnd.links_of, Played.PlayLines.line_told}
+use Rattle.dna_play.proofs.{Stored.Deliveries.segments_got, Stored.Deliveries.gets_made}
 use Rattle.dna_play.proofs.Links.Owing.{duty_fits, still_fits, still_owed}
 use Rattle.dna_play.proofs.Links.Goes.{Goes, SegmentsGo, runs_on}
 use Rattle.dna_play.proofs.Links.Goes as goes
 use Rattle.dna_play.proofs.Links.Keeps.{At, is_kept, acted_on_lives, look}
-use Rattle.dna_play.proofs.Links.Stage.{LinkHolds, set_holds}
 use Rattle.dna_play.proofs.Links.Comes.{EndsHold, message_holds, acted_end}
-use Rattle.dna_play.proofs.Ends.Stage.{ordered_of}
-use Rattle.dna_play.proofs.Stored.Now.{StoredNow, facts_of}
-use Rattle.dna_play.proofs.Ends.TrueEnd.{End, links_of}
 use Rattle.dna_play.proofs.Ends.UpsFollow.{AllLined, AreDistinct, IsLined}
-use Rattle.dna_play.proofs.Played.PlayLines.{line_told}
-use Rattle.capture_record.specs.declared.limit.TheConstants.{MAX_MESSAGE}
-use Rattle.dna_play.proofs.Stored.Deliveries.{segments_got, gets_made}
 
 -- each message that is whole has a line
 lined_short : (address : ℕ) (messages : List (List ℕ)) → AllLined address messages → all_short messages ≡ true

@@ -1,54 +1,24 @@
 -- A unit that an end of the player sends: what it chooses its node makes.
-use Rattle.std.proofs.Common.{◌≡◌, Option, Some, None, List, [], ◌∷◌, ◌++◌, length, drop, refl, sym, ap, ◌∙◌, ℕ, ◌+◌, ◌<◌, ◌^◌, Bool, true, false, Ok}
-use Rattle.std.proofs.Common.{arith, length-drop, eq-eqb}
-use Rattle.ddcmp_msg.specs.Message.{MessageValue, Ack, Nak, Rep, Strt, Stack}
-use Rattle.ddcmp_msg.specs.Spelling.{spelling}
-use Rattle.capture_record.specs.declared.record.Record.TheVariants.{Sent}
+use Rattle.dna_play.proofs.Prelude.{◌≡◌, Option, Some, None, List, [], ◌∷◌, ◌++◌, length, drop, refl, sym, ap, ◌∙◌, ℕ, ◌+◌, ◌<◌, ◌^◌, Bool, true}
+use Rattle.dna_play.proofs.Prelude.{false, Ok, arith, length-drop, eq-eqb, MessageValue, Ack, Nak, Rep, Strt, Stack, spelling, Sent}
+use Rattle.dna_play.proofs.Prelude.{StationVariables, HeldPacket, Without, Links, links_sent, SentMessage, LayersUnit, LayersTruth, Send}
+use Rattle.dna_play.proofs.Prelude.{LinkChoice, link_choice, Choice, SendNew, choice, LinkEnd, SendStrt, SendStack, SendNak, SendRep, SendAgain}
+use Rattle.dna_play.proofs.Prelude.{SendAck, message_of, no_flags, start_flags, address, packet_again, new_data, packet_with, data_with, makes}
+use Rattle.dna_play.proofs.Prelude.{StoredLinks, after_sent, slice_get, eqb-false, NspValue, IsNsp, Head, State, Station, wire, sending_refusal}
+use Rattle.dna_play.proofs.Prelude.{gives_number, AreLabelled, cut, wire_is_new, unlabelled, LinkOf, Carried, TrueSegments, SegmentDuty, all_length}
+use Rattle.dna_play.proofs.Prelude.{sending_refusal_same, first_same, unlabelled_bodies, there_is}
 use Rattle.dna_station.specs.StationBook as station_book
-use Rattle.dna_station.specs.WireStation.{StationVariables, HeldPacket}
-use Rattle.dna_links.specs.declared.queue.Queues.TheVariants.{Without}
-use Rattle.dna_links.specs.TrueLinks.{Links, links_sent}
-use Rattle.dna_links.specs.Runs.{SentMessage}
-use Rattle.dna_node.specs.Layers.{LayersUnit, LayersTruth}
-use Rattle.dna_play.specs.Script.{Send}
-use Rattle.dna_play.specs.NextSent.{LinkChoice, link_choice, Choice, SendNew, choice, LinkEnd, SendStrt, SendStack, SendNak, SendRep, SendAgain}
-use Rattle.dna_play.specs.NextSent.{SendAck}
-use Rattle.dna_play.specs.Compose.{message_of, no_flags, start_flags, address, packet_again, new_data, packet_with, data_with}
-use Rattle.dna_play.specs.Played.{makes}
-use Rattle.dna_play.specs.StoredEnd.{StoredLinks}
-use Rattle.dna_play.specs.StoredLinks.{after_sent}
 use Rattle.dna_play.specs.StoredPlay as keeping
 use Rattle.dna_play.proofs.Played.Steps.{PlayHalf, Nothing, First}
 use Rattle.dna_play.proofs.Ends.SendStage.{after_sending, stage_again, stage_first}
-use Rattle.dna_play.proofs.Stored.Right.{IsRight, never_full}
-use Rattle.dna_play.proofs.Stored.Stations.{station_sent}
-use Rattle.std.specs.Prelude.{slice_get}
-use Rattle.std.proofs.lemmas.Bool.{eqb-false}
-use Rattle.dna_packet.specs.Nsp.{NspValue, IsNsp}
-use Rattle.dna_station.specs.declared.head.Head.{Head}
-use Rattle.dna_station.specs.declared.state.State.{State}
-use Rattle.dna_station.specs.Station.{Station, wire}
-use Rattle.dna_station.specs.StationBook.{sending_refusal, gives_number}
-use Rattle.dna_station.specs.Cut.{AreLabelled, cut}
-use Rattle.dna_station.specs.WireBook.{wire_is_new}
-use Rattle.dna_station.specs.WireNode.{unlabelled}
-use Rattle.dna_links.specs.Links.{LinkOf, Carried}
-use Rattle.dna_links.specs.TrueSegments.{TrueSegments}
-use Rattle.dna_play.specs.LinkOwed.{SegmentDuty}
-use Rattle.dna_station.proofs.Cut.Sending.{all_length, sending_refusal_same, first_same}
-use Rattle.dna_station.proofs.Cut.Node.{unlabelled_bodies}
+use Rattle.dna_play.proofs.{Stored.Right.IsRight, Stored.Right.never_full, Stored.Stations.station_sent, Links.Keeps.is_kept}
+use Rattle.dna_play.proofs.{Links.Keeps.link_there, Links.Fits.duty_plain, Links.Pays.end_of, Links.Sent.asked_goes, Ends.Stage.Stage}
+use Rattle.dna_play.proofs.{Ends.Stage.Known, Stored.Now.StoredNow, Stored.Now.facts_of}
 use Rattle.dna_play.proofs.Ends.StationPays.{IsChosen, ByStrt, ByStack, ByNak, ByRep, ByAgain, ByNew, ByAck, chosen, chosen_may}
-use Rattle.dna_links.proofs.Runs.Owners.{there_is}
 use Rattle.dna_play.proofs.Links.Choices.{IsAsked, OfDuty, OfConfirm, asked_of}
-use Rattle.dna_play.proofs.Links.Keeps.{is_kept, link_there}
-use Rattle.dna_play.proofs.Links.Fits.{duty_plain}
-use Rattle.dna_play.proofs.Links.Pays.{end_of}
-use Rattle.dna_play.proofs.Links.Sent.{asked_goes}
 use Rattle.dna_play.proofs.Ends.UnitLines.{NspFits, confirm_fits, duty_fits, duty_is_nsp, packet_fits, composed_content}
 use Rattle.dna_play.proofs.Ends.SendMakes.{sent_left, is_made, again_after, sends_old, first_after, sends_new, put_of_bytes, data_of_bytes}
 use Rattle.dna_play.proofs.Ends.SendMakes.{packets_held}
-use Rattle.dna_play.proofs.Ends.Stage.{Stage, Known}
-use Rattle.dna_play.proofs.Stored.Now.{StoredNow, facts_of}
 use Rattle.dna_play.proofs.Ends.TrueEnd.{End, variables_of, station_of, links_of, stored, bytes_of}
 
 -- ---- the bytes of the unit

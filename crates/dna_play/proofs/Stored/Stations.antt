@@ -1,21 +1,9 @@
 -- What sending and arrival make of a station, as its node keeps it: what the tables make of its station variables, and what it owes then.
-use Rattle.std.proofs.Common.{◌≡◌, Bool, true, false, cond, List, [], ◌∷◌, fold, refl, ap, ◌∙◌}
-use Rattle.ddcmp_msg.specs.Message.{MessageValue}
-use Rattle.ddcmp_msg.specs.Reading.{ReadingValue}
-use Rattle.ddcmp_msg.specs.declared.nak_reason.NakReason.TheVariants.{HeaderCheck, DataCheck}
-use Rattle.dna_station.specs.declared.tag.Tag.{Tag}
-use Rattle.dna_station.specs.NakCauses.{Causes, with_cause}
-use Rattle.dna_station.specs.Table.{Change, Nothing, change_of, Effect, row, counts_damage}
+use Rattle.dna_play.proofs.Prelude.{◌≡◌, Bool, true, false, cond, List, [], ◌∷◌, fold, refl, ap, ◌∙◌, MessageValue, ReadingValue, HeaderCheck}
+use Rattle.dna_play.proofs.Prelude.{DataCheck, Tag, Causes, with_cause, Change, Nothing, change_of, Effect, row, counts_damage, ArrivalValue}
+use Rattle.dna_play.proofs.Prelude.{body_of, Station, Truth, after_sending, after_arrival, StationVariables, WireStation, wire_sends}
+use Rattle.dna_play.proofs.Prelude.{variables_after, wire_does, Owed, with_debt, arrival_debt, still_owed, Choice, after_choice, StoredStation}
 use Rattle.dna_station.specs.Bounds.{IsOrdered}
-use Rattle.dna_station.specs.Book.{ArrivalValue, body_of}
-use Rattle.dna_station.specs.Station.{Station}
-use Rattle.dna_station.specs.Truth.{Truth}
-use Rattle.dna_station.specs.StationBook.{after_sending, after_arrival}
-use Rattle.dna_station.specs.WireStation.{StationVariables, WireStation}
-use Rattle.dna_station.specs.WireBook.{wire_sends, variables_after, wire_does}
-use Rattle.dna_play.specs.Owed.{Owed, with_debt, arrival_debt, still_owed}
-use Rattle.dna_play.specs.NextSent.{Choice, after_choice}
-use Rattle.dna_play.specs.StoredEnd.{StoredStation}
 use Rattle.dna_play.specs.StoredStation as keeping
 use Rattle.dna_play.proofs.Ends.DamagedUnits.{OfHeader, OfData}
 use Rattle.dna_play.proofs.Ends.StationStage.{cut_of, left_owed, sent_kept, came_kept, Comes, ComesSound, ComesHurt}

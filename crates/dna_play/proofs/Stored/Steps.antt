@@ -1,18 +1,14 @@
 -- Each kind of step of a script is right: it goes by its rule, keeps what holds of its end, and is the same of what the nodes of the ends keep.
-use Rattle.std.proofs.Common.{length, ◌<◌, ℕ, ◌≤◌}
+use Rattle.dna_play.proofs.Prelude.{length, ◌<◌, ℕ, ◌≤◌, stored_plays, Close, Abort, Retry, Accept, Reject, ScriptStep, Start, Halt, Boot}
+use Rattle.dna_play.proofs.Prelude.{StepValue, Timer, Send, Deliver, Refuse, Drop, Lose, Damage, IsStep, step_bytes, slice_index}
 use Rattle.dna_play.proofs.Stored.Made.{start_right, halt_right, boot_right}
-use Rattle.dna_play.proofs.Stored.Now.{StoredNow}
-use Rattle.dna_play.specs.StoredPlay.{stored_plays}
-use Rattle.dna_play.specs.Script.{Close, Abort, Retry, In, Open, Accept, Reject, ScriptStep, Start, Halt, Boot, StepValue, Timer, Send, Deliver}
-use Rattle.dna_play.specs.Script.{Refuse, Drop, Lose, Damage, Noise}
-use Rattle.dna_play.specs.ScriptText.{IsStep, NumbersFit, step_bytes, most_bytes}
-use Rattle.std.specs.Prelude.{slice_index}
-use Rattle.dna_play.proofs.Stored.Right.{IsRight}
+use Rattle.dna_play.proofs.{Stored.Now.StoredNow, Stored.Right.IsRight, Stored.Timers.timer_right, Stored.Timers.lose_right}
+use Rattle.dna_play.proofs.{Stored.Noise.noise_right, Stored.Sends.send_right}
+use Rattle.dna_play.specs.Script.{In, Open}
+use Rattle.dna_play.specs.Script.{Noise}
+use Rattle.dna_play.specs.ScriptText.{NumbersFit, most_bytes}
 use Rattle.dna_play.proofs.Stored.Opened.{open_right, accept_right, reject_right}
-use Rattle.dna_play.proofs.Stored.Timers.{timer_right, lose_right}
 use Rattle.dna_play.proofs.Stored.Receipts.{deliver_right, refuse_right, drop_right, damage_right}
-use Rattle.dna_play.proofs.Stored.Noise.{noise_right}
-use Rattle.dna_play.proofs.Stored.Sends.{send_right}
 use Rattle.dna_play.proofs.Stored.Handed.{in_right, close_right, abort_right, retry_right}
 use Rattle.dna_play.proofs.Ends.TrueEnd.{stored, End, coming}
 

@@ -1,17 +1,9 @@
 -- Steps without a record: a timer of the station, and a unit that is lost.
-use Rattle.std.proofs.Common.{◌≡◌, Some, refl, sym, ◌∙◌, le-leb}
-use Rattle.capture_record.specs.declared.limit.TheConstants.{MAX_HINT}
-use Rattle.dna_station.specs.declared.state.State.{State}
-use Rattle.dna_station.specs.declared.state.State.TheVariants.{Halted, Istrt, Astrt}
+use Rattle.dna_play.proofs.Prelude.{◌≡◌, Some, refl, sym, ◌∙◌, le-leb, MAX_HINT, State, Halted, Istrt, Astrt, Timer, Lose, Debt, timer_debt}
+use Rattle.dna_play.proofs.Prelude.{OwesStrt, OwesStack, IsHalted, timed, times_out, with_next, loses}
 use Rattle.dna_station.specs.declared.state.State.TheVariants as states
-use Rattle.dna_play.specs.Script.{Timer, Lose}
-use Rattle.dna_play.specs.Owed.{Debt, timer_debt, OwesStrt, OwesStack}
-use Rattle.dna_play.specs.StepRule.{IsHalted}
-use Rattle.dna_play.specs.StoredPlay.{timed, times_out, with_next, loses}
-use Rattle.dna_play.proofs.Played.Steps.{Nothing}
+use Rattle.dna_play.proofs.{Played.Steps.Nothing, Ends.Stage.timer_stage, Ends.Stage.passing_stage, Stored.Now.StoredNow}
 use Rattle.dna_play.proofs.Ends.TrueEnd.{End, variables_of, station_of, owing_more, passing, stored, coming}
-use Rattle.dna_play.proofs.Ends.Stage.{timer_stage, passing_stage}
-use Rattle.dna_play.proofs.Stored.Now.{StoredNow}
 use Rattle.dna_play.proofs.Stored.Right.{IsRight, kept_right, never_full, unit_right, next_is}
 
 module _ (own other : End) (now : StoredNow own other) where

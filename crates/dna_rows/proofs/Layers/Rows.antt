@@ -1,14 +1,9 @@
 -- Worked rows over both layers, computed from the definitions on true numbers and as nodes keep them: the records of a row are made, and of a refused
 -- one the last record is refused where the earlier ones lead.
-use Rattle.std.proofs.Common.{List, [], ◌∷◌, ◌++◌}
-use Rattle.wire_base.specs.declared.side.Side.TheVariants.{A, B}
-use Rattle.capture_record.specs.declared.fate.Fate.TheVariants.{NotKept, Kept}
-use Rattle.capture_record.specs.declared.record.Record.{Record}
-use Rattle.capture_record.specs.declared.record.Record.TheVariants.{Sent, Received, User}
-use Rattle.capture_record.specs.declared.event.Event.TheVariants.{Start, Halt, Open, Accept, In, Up, Close}
-use Rattle.dna_station.specs.declared.refusal.StationRefusal.TheVariants.{WrongState, WrongNumber}
-use Rattle.dna_station.specs.declared.refusal.StepRefusal.TheVariants.{BadPacket, BadNsp, Station as OfStation, Links as OfLinks}
-use Rattle.dna_station.specs.declared.link_refusal.LinkRefusal.TheVariants.{WrongNode, NoLink, WrongAck, WrongDelivery, CrossedLink, AddressInUse}
+use Rattle.dna_rows.proofs.Prelude.{List, [], ◌∷◌, ◌++◌, A, B, NotKept, Kept, Record, Sent, Received, User, Start, Halt, In, Up, WrongState}
+use Rattle.dna_rows.proofs.Prelude.{WrongNumber, BadPacket, BadNsp, WrongNode, NoLink, WrongAck, WrongDelivery, CrossedLink, AddressInUse}
+use Rattle.capture_record.specs.declared.event.Event.TheVariants.{Open, Accept, Close}
+use Rattle.dna_station.specs.declared.refusal.StepRefusal.TheVariants.{Station as OfStation, Links as OfLinks}
 use Rattle.dna_rows.proofs.Units.{computing, STRT, STACK, ACK, NAK, DATA}
 use Rattle.dna_rows.proofs.Captures.{started, answered}
 use Rattle.dna_rows.proofs.Courses.{runs, ends}

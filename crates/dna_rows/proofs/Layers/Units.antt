@@ -1,11 +1,6 @@
 -- The units of the worked rows over both layers, and how such a row is stated, on true numbers and as nodes keep them.
-use Rattle.std.proofs.Common.{ℕ, List, [], ◌∷◌}
-use Rattle.two_nodes.specs.Nodes.{Refused}
-use Rattle.wire_base.specs.declared.side.Side.{Side}
-use Rattle.capture_record.specs.declared.record.Record.{Record}
-use Rattle.dna_station.specs.declared.refusal.StepRefusal.{StepRefusal}
-use Rattle.dna_node.specs.LayersPair.{layers_pair, layers_start}
-use Rattle.dna_node.specs.WireLayers.{wire_layers_pair, wire_layers_start}
+use Rattle.dna_rows.proofs.Prelude.{ℕ, List, [], ◌∷◌, Refused, Side, Record, StepRefusal, layers_pair, layers_start, wire_layers_pair}
+use Rattle.dna_rows.proofs.Prelude.{wire_layers_start}
 use Rattle.dna_rows.proofs.Courses.{head_1, head_2, Runs, EndsAt}
 
 -- All records of a and of b are made

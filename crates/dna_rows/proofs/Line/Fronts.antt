@@ -1,10 +1,5 @@
 -- Which unit a receipt may name: one behind the unit of the receipt before, whatever became of that.
-use Rattle.std.proofs.Common.{ℕ, List, [], ◌∷◌, ◌++◌}
-use Rattle.wire_base.specs.declared.side.Side.TheVariants.{B}
-use Rattle.capture_record.specs.declared.fate.Fate.TheVariants.{NotKept, Kept}
-use Rattle.capture_record.specs.declared.record.Record.TheVariants.{Sent, Received, User}
-use Rattle.capture_record.specs.declared.event.Event.TheVariants.{Start, Halt}
-use Rattle.dna_station.specs.declared.refusal.StepRefusal.TheVariants.{HintOrder}
+use Rattle.dna_rows.proofs.Prelude.{ℕ, List, [], ◌∷◌, ◌++◌, B, NotKept, Kept, Sent, Received, User, Start, Halt, HintOrder}
 use Rattle.dna_rows.proofs.Verdicts.{Verdict, verdict}
 use Rattle.dna_rows.proofs.Units.{computing, DATA, STRT, ACK, data_of}
 use Rattle.dna_rows.proofs.Captures.{started, answered, acked_a, acked_b, refused}

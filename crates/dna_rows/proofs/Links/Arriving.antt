@@ -1,10 +1,7 @@
 -- Each row of the table of what an arrival does, and each reason that may refuse it, computed by both books.
-use Rattle.std.proofs.Common.{◌≡◌, true, false, ℕ, List, [], ◌∷◌, ◌++◌, Some, None}
-use Rattle.wire_base.specs.declared.side.Side.TheVariants.{A, B}
-use Rattle.dna_links.specs.declared.tag.LinkTag.{LinkTag}
-use Rattle.dna_station.specs.declared.link_refusal.LinkRefusal.TheVariants.{WrongNode, NoLink, SegmentTooLong, CrossedLink}
+use Rattle.dna_rows.proofs.Prelude.{◌≡◌, true, false, ℕ, List, [], ◌∷◌, ◌++◌, Some, None, A, B, LinkTag, WrongNode, NoLink, SegmentTooLong}
+use Rattle.dna_rows.proofs.Prelude.{CrossedLink, of_anyone}
 use Rattle.dna_links.specs.User.{Open, Accept, Reject, In, Up, Close}
-use Rattle.dna_links.specs.Arriving.{of_anyone}
 use Rattle.dna_rows.proofs.Units.{CI, CI_AGAIN, CI_AGAIN_2, CC_2, CONNECT_ACK, DI, DC_42, LINK_SERVICE, INTERRUPT, OTHER_ACK, NO_OPERATION, DATA_ACK}
 use Rattle.dna_rows.proofs.Units.{ack, SEGMENT, carries}
 use Rattle.dna_rows.proofs.Links.Steps.{Act, NODE_A, NODE_B, Does, Sends, Comes, ComesAs, Gets, AllMade, LastRefused, ChangesNothing, HasTag}

@@ -1,8 +1,6 @@
 -- Worked rows of calls that are given up and of boots: what the user may do then, what may be sent, and what comes, computed by both books.
-use Rattle.std.proofs.Common.{List, [], ◌∷◌, ◌++◌}
-use Rattle.wire_base.specs.declared.side.Side.TheVariants.{A, B}
-use Rattle.dna_station.specs.declared.link_refusal.LinkRefusal.TheVariants.{NoLink, LinkState, WrongDelivery, AddressInUse, CrossedLink}
-use Rattle.dna_links.specs.User.{Open, Accept, In, Up, Close, Abort, Boot}
+use Rattle.dna_rows.proofs.Prelude.{List, [], ◌∷◌, ◌++◌, A, B, NoLink, LinkState, WrongDelivery, AddressInUse, CrossedLink, Boot}
+use Rattle.dna_links.specs.User.{Open, Accept, In, Up, Close, Abort}
 use Rattle.dna_rows.proofs.Units.{CI, CI_AGAIN, CC_2, DI, DC_42, DATA_ACK, ack, SEGMENT, carries}
 use Rattle.dna_rows.proofs.Links.Steps.{Act, Does, Sends, Comes, AllMade, LastRefused, ChangesNothing}
 use Rattle.dna_rows.proofs.Links.OneLink.{opened, connected, letters}

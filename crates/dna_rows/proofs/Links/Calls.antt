@@ -1,12 +1,8 @@
 -- Calls and their answers: which link a CI, connect ack or CC is about, and what it says of segments.
-use Rattle.std.proofs.Common.{[], ◌∷◌, ◌++◌}
-use Rattle.wire_base.specs.declared.side.Side.TheVariants.{A, B}
-use Rattle.capture_record.specs.declared.fate.Fate.TheVariants.{NotKept, Kept}
-use Rattle.capture_record.specs.declared.record.Record.TheVariants.{Sent, Received, User}
-use Rattle.capture_record.specs.declared.event.Event.TheVariants.{Start, Open, Accept, In, Up, Close}
+use Rattle.dna_rows.proofs.Prelude.{[], ◌∷◌, ◌++◌, A, B, NotKept, Kept, Sent, Received, User, Start, In, Up, NoLink, LinkState, SegmentTooLong}
+use Rattle.dna_rows.proofs.Prelude.{Accepted}
+use Rattle.capture_record.specs.declared.event.Event.TheVariants.{Open, Accept, Close}
 use Rattle.dna_station.specs.declared.refusal.StepRefusal.TheVariants.{Links as OfLinks}
-use Rattle.dna_station.specs.declared.link_refusal.LinkRefusal.TheVariants.{NoLink, LinkState, SegmentTooLong}
-use Rattle.dna_node.specs.declared.finding.Finding.TheVariants.{Accepted}
 use Rattle.dna_rows.proofs.Verdicts.{Verdict, verdict}
 use Rattle.dna_rows.proofs.Units.{computing, STRT, STACK, CI, CI_AGAIN, CC, CONNECT_ACK, DI, DC, LINK_SERVICE, SEGMENT, carries, data_a, data_b}
 use Rattle.dna_rows.proofs.Captures.{started, answered, acked_a, acked_b, called_a, called_b, confirmed_b, running_a, running_b, refused}

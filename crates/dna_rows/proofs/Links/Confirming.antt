@@ -1,9 +1,5 @@
 -- What brings a link from its CC into RUN, on the side that sent the CC.
-use Rattle.std.proofs.Common.{[], ◌∷◌, ◌++◌}
-use Rattle.capture_record.specs.declared.fate.Fate.TheVariants.{Kept}
-use Rattle.capture_record.specs.declared.record.Record.TheVariants.{Sent, Received, User}
-use Rattle.capture_record.specs.declared.event.Event.TheVariants.{In, Up}
-use Rattle.dna_node.specs.declared.finding.Finding.TheVariants.{Accepted}
+use Rattle.dna_rows.proofs.Prelude.{[], ◌∷◌, ◌++◌, Kept, Sent, Received, User, In, Up, Accepted}
 use Rattle.dna_rows.proofs.Verdicts.{Verdict, verdict}
 use Rattle.dna_rows.proofs.Units.{computing, LINK_SERVICE, INTERRUPT, OTHER_ACK, ack, DATA_ACK, SEGMENT, carries, data_a, data_b}
 use Rattle.dna_rows.proofs.Captures.{confirmed_a, confirmed_b, running_a, running_b}

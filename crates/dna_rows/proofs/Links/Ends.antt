@@ -1,12 +1,7 @@
 -- The end of a link: DI, DC, and what may still be delivered.
-use Rattle.std.proofs.Common.{[], ◌∷◌, ◌++◌}
-use Rattle.wire_base.specs.declared.side.Side.TheVariants.{A, B}
-use Rattle.capture_record.specs.declared.fate.Fate.TheVariants.{Kept}
-use Rattle.capture_record.specs.declared.record.Record.TheVariants.{Sent, Received, User}
-use Rattle.capture_record.specs.declared.event.Event.TheVariants.{Open, Accept, Reject, In, Up, Close}
+use Rattle.dna_rows.proofs.Prelude.{[], ◌∷◌, ◌++◌, A, B, Kept, Sent, Received, User, In, Up, NoLink, WrongDelivery, Accepted}
+use Rattle.capture_record.specs.declared.event.Event.TheVariants.{Open, Accept, Reject, Close}
 use Rattle.dna_station.specs.declared.refusal.StepRefusal.TheVariants.{Links as OfLinks}
-use Rattle.dna_station.specs.declared.link_refusal.LinkRefusal.TheVariants.{NoLink, WrongDelivery}
-use Rattle.dna_node.specs.declared.finding.Finding.TheVariants.{Accepted}
 use Rattle.dna_rows.proofs.Verdicts.{Verdict, verdict}
 use Rattle.dna_rows.proofs.Units.{computing, DI, DC, SEGMENT, carries, data_a, data_b}
 use Rattle.dna_rows.proofs.Captures.{called_a, called_b, running_a, running_b, refused}

@@ -1,8 +1,6 @@
 -- The worked rows of one link, computed from the definitions on true numbers and on those that a node keeps: from the opening on, with
 -- every refusal on the way.
-use Rattle.std.proofs.Common.{ℕ, List, [], ◌∷◌, ◌++◌}
-use Rattle.wire_base.specs.declared.side.Side.TheVariants.{A, B}
-use Rattle.dna_station.specs.declared.link_refusal.LinkRefusal.TheVariants.{WrongAck, SegmentTooLong, WrongDelivery}
+use Rattle.dna_rows.proofs.Prelude.{ℕ, List, [], ◌∷◌, ◌++◌, A, B, WrongAck, SegmentTooLong, WrongDelivery}
 use Rattle.dna_links.specs.User.{Open, Accept, In, Up}
 use Rattle.dna_rows.proofs.Units.{CI, CI_AGAIN, CC_2, DATA_ACK, ack, SEGMENT, carries}
 use Rattle.dna_rows.proofs.Links.Steps.{Act, Does, Sends, Comes, AllMade, LastRefused}

@@ -1,7 +1,5 @@
 -- The rows of one node whose links meet every kind of message, computed by both books.
-use Rattle.std.proofs.Common.{ℕ, List, [], ◌∷◌, ◌++◌, Some}
-use Rattle.wire_base.specs.declared.side.Side.TheVariants.{A, B}
-use Rattle.dna_station.specs.declared.link_refusal.LinkRefusal.TheVariants.{WrongNode, NoLink, LinkState, WrongAck, CrossedLink, AddressInUse}
+use Rattle.dna_rows.proofs.Prelude.{ℕ, List, [], ◌∷◌, ◌++◌, Some, A, B, WrongNode, NoLink, LinkState, WrongAck, CrossedLink, AddressInUse}
 use Rattle.dna_links.specs.User.{Open, Accept, In, Close}
 use Rattle.dna_rows.proofs.Units.{CI, CC_2, DI, LINK_SERVICE, INTERRUPT, OTHER_ACK, NO_OPERATION, DATA_ACK, ack, SEGMENT, carries}
 use Rattle.dna_rows.proofs.Links.Steps.{Act, NODE_B, Does, Sends, SendsAs, Comes, ComesAs, AllMade, LastRefused, ChangesNothing}

@@ -1,25 +1,13 @@
 -- Worked runs of both sides' links: packets are lost on the line or after it, or composed and never sent, and what they had comes when it is
 -- sent again; a node boots.
-use Rattle.std.proofs.Common.{◌≡◌, ℕ, ◌≤◌, Bool, true, false, nat_lt, nat_le, Option, Some, None, List, [], ◌∷◌, ◌++◌, length, map, refl}
-use Rattle.std.proofs.Common.{Result, Ok, Err, leb-true, ltb-true}
-use Rattle.std.specs.Prelude.{slice_get}
-use Rattle.std.proofs.lemmas.Option.{slice_get_within}
-use Rattle.wire_base.specs.declared.side.Side.{Side}
-use Rattle.wire_base.specs.declared.side.Side.TheVariants.{A, B}
-use Rattle.dna_packet.specs.declared.fault.NspFault.{NspFault}
-use Rattle.dna_packet.specs.Nsp.{NspValue}
-use Rattle.dna_packet.specs.ReadingNsp.{nsp_at}
-use Rattle.dna_station.specs.declared.link_refusal.LinkRefusal.{LinkRefusal}
-use Rattle.dna_links.specs.declared.queue.Queues.TheVariants.{Without}
-use Rattle.dna_links.specs.Links.{LinkOf, Carried}
-use Rattle.dna_links.specs.User.{LinkEventValue, Open, Accept, In, Up, Close, Boot}
+use Rattle.dna_rows.proofs.Prelude.{◌≡◌, ℕ, ◌≤◌, Bool, true, false, nat_lt, nat_le, Option, Some, None, List, [], ◌∷◌, ◌++◌, length, map, refl}
+use Rattle.dna_rows.proofs.Prelude.{Result, Ok, Err, leb-true, ltb-true, slice_get, slice_get_within, Side, A, B, NspFault, NspValue, nsp_at}
+use Rattle.dna_rows.proofs.Prelude.{LinkRefusal, Without, LinkOf, Carried, LinkEventValue, Boot, of_partner, TrueSegments, Numbers, Links}
+use Rattle.dna_rows.proofs.Prelude.{links_user, links_sent, links_arrived, SentMessage, LinkSide, LinkWorld, LinkStep, ByUser, Sends, SendsNone}
+use Rattle.dna_rows.proofs.Prelude.{Composes, Keeps, Passes, Reached, ByA, ByB, new_world, handed_in, delivered_up, behind}
+use Rattle.dna_links.specs.User.{Open, Accept, In, Up, Close}
 use Rattle.dna_links.specs.Sending.{Sent}
-use Rattle.dna_links.specs.Arriving.{of_partner}
-use Rattle.dna_links.specs.TrueSegments.{TrueSegments, Numbers}
-use Rattle.dna_links.specs.TrueLinks.{Links, links_user, links_sent, links_arrived}
-use Rattle.dna_links.specs.Runs.{SentMessage, LinkSide, LinkWorld, LinkStep, ByUser, Sends, SendsNone, Composes, Keeps, Passes}
-use Rattle.dna_links.specs.Runs.{Reached, Start, ByA, ByB, new_world}
-use Rattle.dna_links.specs.Captures.{handed_in, delivered_up, behind}
+use Rattle.dna_links.specs.Runs.{Start}
 use Rattle.dna_rows.proofs.Units.{CI, CC_2, DI, DC_42, DATA_ACK, ack, SEGMENT, carries}
 use Rattle.dna_rows.proofs.Links.Steps.{NODE_A, NODE_B}
 

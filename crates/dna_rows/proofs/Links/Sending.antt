@@ -1,7 +1,5 @@
 -- Each row of the table of what may be sent, each reason that may refuse it but those on numbers, and the tags, computed by both books.
-use Rattle.std.proofs.Common.{ℕ, List, [], ◌∷◌, ◌++◌, Some, None}
-use Rattle.wire_base.specs.declared.side.Side.TheVariants.{A, B}
-use Rattle.dna_station.specs.declared.link_refusal.LinkRefusal.TheVariants.{WrongNode, NoLink, LinkState}
+use Rattle.dna_rows.proofs.Prelude.{ℕ, List, [], ◌∷◌, ◌++◌, Some, None, A, B, WrongNode, NoLink, LinkState}
 use Rattle.dna_links.specs.User.{Open, Accept, Reject}
 use Rattle.dna_rows.proofs.Units.{CI, CI_AGAIN, CC_2, CONNECT_ACK, DI, DC_42, LINK_SERVICE, INTERRUPT, OTHER_ACK, NO_OPERATION, DATA_ACK, ack}
 use Rattle.dna_rows.proofs.Units.{SEGMENT, carries}

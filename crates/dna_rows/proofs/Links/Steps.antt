@@ -1,24 +1,9 @@
 -- How the worked rows of links go: two nodes, 1.1 and 1.2, on true numbers and as they keep their links, and what each does in turn. A
 -- message comes as it was sent, with what is true of it, or with another tag; its bytes are read as a node reads them.
-use Rattle.std.proofs.Common.{◌≡◌, ℕ, Option, Some, None, List, [], ◌∷◌, ◌++◌, Result, Ok, Err}
-use Rattle.std.specs.Prelude.{slice_get}
-use Rattle.wire_base.specs.declared.side.Side.{Side}
-use Rattle.wire_base.specs.declared.side.Side.TheVariants.{A, B}
-use Rattle.wire_base.specs.Side.{other_side}
-use Rattle.dna_packet.specs.declared.fault.NspFault.{NspFault}
-use Rattle.dna_packet.specs.Nsp.{NspValue}
-use Rattle.dna_packet.specs.ReadingNsp.{nsp_at}
-use Rattle.dna_station.specs.declared.link_refusal.LinkRefusal.{LinkRefusal}
-use Rattle.dna_links.specs.declared.queue.Queues.TheVariants.{Without}
-use Rattle.dna_links.specs.declared.tag.LinkTag.{LinkTag}
-use Rattle.dna_links.specs.SegmentBook.{SegmentBook}
-use Rattle.dna_links.specs.Links.{LinksOf, Carried, LinkTruth, no_links}
-use Rattle.dna_links.specs.User.{LinkEventValue}
-use Rattle.dna_links.specs.LinkBook.{user_step}
-use Rattle.dna_links.specs.Sending.{Sent, sent_step}
-use Rattle.dna_links.specs.Arriving.{of_partner, arrived_step}
-use Rattle.dna_links.specs.TrueSegments.{true_segments}
-use Rattle.dna_links.specs.WireSegments.{wire_segments}
+use Rattle.dna_rows.proofs.Prelude.{◌≡◌, ℕ, Option, Some, None, List, [], ◌∷◌, ◌++◌, Result, Ok, Err, slice_get, Side, A, B, other_side, NspFault}
+use Rattle.dna_rows.proofs.Prelude.{NspValue, nsp_at, LinkRefusal, Without, LinkTag, SegmentBook, LinksOf, Carried, LinkTruth, no_links}
+use Rattle.dna_rows.proofs.Prelude.{LinkEventValue, user_step, sent_step, of_partner, arrived_step, true_segments, wire_segments}
+use Rattle.dna_links.specs.Sending.{Sent}
 
 -- the addresses of the two nodes, 1.1 and 1.2
 abbrev pub NODE_A : ℕ

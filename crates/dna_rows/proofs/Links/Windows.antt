@@ -1,16 +1,9 @@
 -- Numbers beyond one window and beyond 4,095, on segments that are written out: the full window, how far back a repeat and a word in one
 -- reach, and how far ahead a segment may come.
-use Rattle.std.proofs.Common.{◌≡◌, ℕ, ◌-◌, Bool, true, false, Option, Some, None, List, [], ◌∷◌, replicate, length, Result, Ok, Err}
-use Rattle.dna_packet.specs.declared.ack_word.AckQualifier.TheVariants.{Ack}
-use Rattle.dna_packet.specs.declared.ack_word.AckWord.{AckWord}
-use Rattle.dna_packet.specs.Nsp.{SegmentValue}
-use Rattle.dna_station.specs.declared.link_refusal.LinkRefusal.{LinkRefusal}
-use Rattle.dna_station.specs.declared.link_refusal.LinkRefusal.TheVariants.{WrongSegment, WrongAck, LinkWindowFull}
-use Rattle.dna_links.specs.Segmentation.{Piece}
-use Rattle.dna_links.specs.SegmentBook.{Sending, wire}
-use Rattle.dna_links.specs.TrueSegments.{TrueSegments, Numbers}
+use Rattle.dna_rows.proofs.Prelude.{◌≡◌, ℕ, ◌-◌, Bool, true, false, Option, Some, None, List, [], ◌∷◌, replicate, length, Result, Ok, Err, Ack}
+use Rattle.dna_rows.proofs.Prelude.{AckWord, SegmentValue, LinkRefusal, WrongSegment, WrongAck, LinkWindowFull, Piece, Sending, wire, TrueSegments}
+use Rattle.dna_rows.proofs.Prelude.{LinkVariables, WireSegments}
 use Rattle.dna_links.specs.TrueSegments as on_true
-use Rattle.dna_links.specs.WireSegments.{LinkVariables, WireSegments}
 use Rattle.dna_links.specs.WireSegments as on_wire
 
 -- a message of one byte, in one piece

@@ -1,8 +1,6 @@
 -- Numbers, acknowledgement words and pieces: each check of a segment and of a word, and what they do where they come, computed by both
 -- books.
-use Rattle.std.proofs.Common.{ℕ, List, [], ◌∷◌, ◌++◌}
-use Rattle.wire_base.specs.declared.side.Side.TheVariants.{A, B}
-use Rattle.dna_station.specs.declared.link_refusal.LinkRefusal.TheVariants.{WrongSegment, WrongAck, SegmentTooLong, WrongDelivery}
+use Rattle.dna_rows.proofs.Prelude.{ℕ, List, [], ◌∷◌, ◌++◌, A, B, WrongSegment, WrongAck, SegmentTooLong, WrongDelivery}
 use Rattle.dna_links.specs.User.{In, Up}
 use Rattle.dna_rows.proofs.Units.{DATA_ACK, ack, nak, other_ack, other_nak, SEGMENT, carries}
 use Rattle.dna_rows.proofs.Links.Steps.{Act, Does, Sends, Comes, AllMade, LastRefused, ChangesNothing}

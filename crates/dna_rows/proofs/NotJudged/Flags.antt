@@ -1,12 +1,6 @@
 -- The flags of a unit, quick sync 0x40 and select 0x80 of its third byte, are not judged in any message.
-use Rattle.std.proofs.Common.{[], ◌∷◌, ◌++◌}
-use Rattle.wire_base.specs.declared.side.Side.TheVariants.{B}
-use Rattle.capture_record.specs.declared.fate.Fate.TheVariants.{NotKept}
-use Rattle.capture_record.specs.declared.record.Record.TheVariants.{Sent, Received, User}
-use Rattle.capture_record.specs.declared.event.Event.TheVariants.{Start}
-use Rattle.dna_station.specs.declared.refusal.StationRefusal.TheVariants.{NoCause}
+use Rattle.dna_rows.proofs.Prelude.{[], ◌∷◌, ◌++◌, B, NotKept, Sent, Received, User, Start, NoCause, Accepted}
 use Rattle.dna_station.specs.declared.refusal.StepRefusal.TheVariants.{Station as OfStation}
-use Rattle.dna_node.specs.declared.finding.Finding.TheVariants.{Accepted}
 use Rattle.dna_rows.proofs.Verdicts.{Verdict, verdict}
 use Rattle.dna_rows.proofs.Units.{computing, STRT, control, data_with}
 use Rattle.dna_rows.proofs.Captures.{started, answered, refused}

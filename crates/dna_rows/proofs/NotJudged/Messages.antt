@@ -1,9 +1,6 @@
 -- What of an NSP message is not judged. A proof that the code keeps to the definitions does not notice where both take such a field for a rule.
-use Rattle.std.proofs.Common.{[], ◌∷◌, ◌++◌}
-use Rattle.capture_record.specs.declared.fate.Fate.TheVariants.{Kept}
-use Rattle.capture_record.specs.declared.record.Record.TheVariants.{Sent, Received, User}
-use Rattle.capture_record.specs.declared.event.Event.TheVariants.{Open, Accept, In, Up, Close}
-use Rattle.dna_node.specs.declared.finding.Finding.TheVariants.{Accepted}
+use Rattle.dna_rows.proofs.Prelude.{[], ◌∷◌, ◌++◌, Kept, Sent, Received, User, In, Up, Accepted}
+use Rattle.capture_record.specs.declared.event.Event.TheVariants.{Open, Accept, Close}
 use Rattle.dna_rows.proofs.Verdicts.{Verdict, verdict}
 use Rattle.dna_rows.proofs.Units.{computing, between, connects, CI, CC, DI, DC, LINK_SERVICE, INTERRUPT, SEGMENT, carries, data_a, data_b}
 use Rattle.dna_rows.proofs.Captures.{started, answered, confirmed_b, running_a, running_b}

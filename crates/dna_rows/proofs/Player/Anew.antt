@@ -1,9 +1,8 @@
 -- Worked rows of the player: a node starts anew, a call is given up, and a packet is kept and lost before the links.
-use Rattle.std.proofs.Common.{List, [], ◌∷◌, ◌++◌}
-use Rattle.std.specs.Prelude.{codes}
+use Rattle.dna_rows.proofs.Prelude.{List, [], ◌∷◌, ◌++◌, codes, User, ScriptStep, Timer, Send, Deliver, Drop, Lose, Noise, Open, Accept, Close}
+use Rattle.dna_rows.proofs.Prelude.{Abort, Retry}
 use Rattle.capture_record.specs.declared.event.Event.TheVariants as event
-use Rattle.capture_record.specs.declared.record.Record.TheVariants.{User}
-use Rattle.dna_play.specs.Script.{ScriptStep, Start, Halt, Boot, Timer, Send, Deliver, Drop, Lose, Noise, Open, Accept, In, Close, Abort, Retry}
+use Rattle.dna_play.specs.Script.{Start, Halt, Boot, In}
 use Rattle.dna_rows.proofs.Scripts.{a, b, s, r, d, BSendsOne, IsBad, Adds, Captures, running, called, accepted, confirmed, linked, playing}
 
 -- the call of a's link 1 is on the line

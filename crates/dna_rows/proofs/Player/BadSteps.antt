@@ -1,9 +1,7 @@
 -- Worked rows of the player: steps that can't be made, and the least that can.
-use Rattle.std.proofs.Common.{[], ◌∷◌, ◌++◌}
-use Rattle.std.specs.Prelude.{codes}
-use Rattle.capture_record.specs.declared.record.Record.TheVariants.{User}
+use Rattle.dna_rows.proofs.Prelude.{[], ◌∷◌, ◌++◌, codes, User, Send, Deliver, Refuse, Lose, Damage, Noise, Open, Accept, Reject, Close, Retry}
 use Rattle.capture_record.specs.declared.event.Event.TheVariants as event
-use Rattle.dna_play.specs.Script.{Start, Halt, Send, Deliver, Refuse, Lose, Damage, Noise, Open, Accept, Reject, In, Close, Retry}
+use Rattle.dna_play.specs.Script.{Start, Halt, In}
 use Rattle.dna_rows.proofs.Units.{hex}
 use Rattle.dna_rows.proofs.Scripts.{a, b, r, IsBad, Adds, Captures, running, called, linked, rejected, playing}
 

@@ -1,28 +1,14 @@
 -- Worked rows of the player: full windows, numbers across their wrap, pieces, the last address, and what no script can show.
-use Rattle.std.proofs.Common.{◌≡◌, ℕ, Bool, true, false, Some, None, List, [], ◌∷◌, Result, Ok, Err, replicate}
-use Rattle.std.specs.Prelude.{codes}
-use Rattle.ddcmp_msg.specs.Message.{Data, Rep}
-use Rattle.ddcmp_msg.specs.Reading.{HeaderBad, DataBad}
-use Rattle.dna_packet.specs.Nsp.{nsp_bytes}
-use Rattle.capture_record.specs.declared.record.Record.{Record}
-use Rattle.capture_record.specs.declared.record.Record.TheVariants.{User}
+use Rattle.dna_rows.proofs.Prelude.{◌≡◌, ℕ, Bool, true, false, Some, None, List, [], ◌∷◌, Result, Ok, Err, replicate, codes, Data, Rep, HeaderBad}
+use Rattle.dna_rows.proofs.Prelude.{DataBad, nsp_bytes, Record, User, Running, Piece, Unsent, next_piece, HeldPacket, StationVariables, Send}
+use Rattle.dna_rows.proofs.Prelude.{Deliver, Open, Accept, Owed, arrival_debt, DataAckDuty, SegmentDuty, LinkEnd, duty_of, OfLink, choice}
+use Rattle.dna_rows.proofs.Prelude.{SendAgain, SendNew, SendAck, SendRep, duty_message, message_of, no_flags, StoredEnd, new_stored_end}
+use Rattle.dna_rows.proofs.Prelude.{StoredStepped, stored_plays, StoredPlayed, stored_play, Stopped, Stop, BadStep, Full}
 use Rattle.capture_record.specs.declared.event.Event.TheVariants as event
-use Rattle.dna_links.specs.declared.port.Phase.TheVariants.{Running}
 use Rattle.dna_station.specs.declared.state.State.TheVariants as states
-use Rattle.dna_links.specs.Segmentation.{Piece, Unsent, next_piece}
-use Rattle.dna_station.specs.WireStation.{HeldPacket, StationVariables}
-use Rattle.dna_play.specs.Script.{Start, Send, Deliver, Open, Accept}
-use Rattle.dna_play.specs.Owed.{Owed, arrival_debt}
+use Rattle.dna_play.specs.Script.{Start}
 use Rattle.dna_play.specs.Owed as owing
-use Rattle.dna_play.specs.LinkOwed.{LinkOwed, DataAckDuty, SegmentDuty}
 use Rattle.dna_play.specs.LinkOwed as links_owing
-use Rattle.dna_play.specs.NextSent.{LinkEnd, duty_of, OfLink, choice, SendAgain, SendNew, SendAck, SendRep}
-use Rattle.dna_play.specs.Compose.{duty_message, message_of, no_flags}
-use Rattle.dna_play.specs.StoredEnd.{StoredEnd, new_stored_end}
-use Rattle.dna_play.specs.StoredPlay.{StoredStepped, stored_plays}
-use Rattle.dna_play.specs.StoredPlayed.{StoredPlayed, stored_play}
-use Rattle.dna_play.specs.Stop.{Stopped}
-use Rattle.dna_play.specs.Stop.{Stop, BadStep, Full}
 use Rattle.dna_rows.proofs.Courses.{head_1}
 use Rattle.dna_rows.proofs.Units.{hex}
 use Rattle.dna_rows.proofs.Scripts.{a, b, script, called, playing}

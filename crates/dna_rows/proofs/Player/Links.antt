@@ -1,10 +1,7 @@
 -- What the links of an end send of themselves.
-use Rattle.std.proofs.Common.{[], ◌∷◌, ◌++◌}
-use Rattle.capture_record.specs.declared.fate.Fate.TheVariants.{NotKept, Kept}
-use Rattle.capture_record.specs.declared.record.Record.TheVariants.{Sent, Received, User}
+use Rattle.dna_rows.proofs.Prelude.{[], ◌∷◌, ◌++◌, NotKept, Kept, Sent, Received, User, Send, Deliver, Open, Accept, Reject, Close, Retry, BadStep}
 use Rattle.capture_record.specs.declared.event.Event.TheVariants as event
-use Rattle.dna_play.specs.Script.{Start, Halt, Send, Deliver, Open, Accept, Reject, In, Close, Retry}
-use Rattle.dna_play.specs.Stop.{BadStep}
+use Rattle.dna_play.specs.Script.{Start, Halt, In}
 use Rattle.dna_rows.proofs.Units.{STRT, STACK, ACK, CI, CC, CONNECT_ACK, DI, DC, ack, DATA_ACK, SEGMENT, carries, data_a, data_b}
 use Rattle.dna_rows.proofs.Captures.{acked_a, acked_b}
 use Rattle.dna_rows.proofs.Scripts.{a, b, Plays, Captures, StopsAt, running, called, confirmed, linked, playing}

@@ -1,9 +1,7 @@
 -- How a message is cut into segments of at most 512 bytes, and joined again.
-use Rattle.std.proofs.Common.{[], ◌∷◌, ◌++◌}
-use Rattle.capture_record.specs.declared.fate.Fate.TheVariants.{Kept}
-use Rattle.capture_record.specs.declared.record.Record.TheVariants.{Sent, Received, User}
+use Rattle.dna_rows.proofs.Prelude.{[], ◌∷◌, ◌++◌, Kept, Sent, Received, User, Send, Deliver}
 use Rattle.capture_record.specs.declared.event.Event.TheVariants as event
-use Rattle.dna_play.specs.Script.{Send, Deliver, In}
+use Rattle.dna_play.specs.Script.{In}
 use Rattle.dna_rows.proofs.Units.{ACK, CI, CC, ack, DATA_ACK, SEGMENT, carries, data_a, data_b}
 use Rattle.dna_rows.proofs.Captures.{acked_a, acked_b}
 use Rattle.dna_rows.proofs.Scripts.{a, b, Plays, Captures, linked, counted, playing}

@@ -1,10 +1,7 @@
 -- Worked rows of the player: what the links of an end owe, each line of it decided by a row.
-use Rattle.std.proofs.Common.{[], ◌∷◌, ◌++◌}
-use Rattle.std.specs.Prelude.{codes}
-use Rattle.capture_record.specs.declared.record.Record.TheVariants.{User}
+use Rattle.dna_rows.proofs.Prelude.{[], ◌∷◌, ◌++◌, codes, User, Send, Deliver, Open, Accept, Reject, Close, Retry, BadStep}
 use Rattle.capture_record.specs.declared.event.Event.TheVariants as event
-use Rattle.dna_play.specs.Script.{Send, Deliver, Open, Accept, Reject, In, Close, Retry}
-use Rattle.dna_play.specs.Stop.{BadStep}
+use Rattle.dna_play.specs.Script.{In}
 use Rattle.dna_rows.proofs.Scripts.{ASendsOne, BSendsOne, a, b, s, k, IsBad, ASends, BSends, Adds, Captures, StopsAt, running, called, accepted}
 use Rattle.dna_rows.proofs.Scripts.{linked, rejected, playing}
 

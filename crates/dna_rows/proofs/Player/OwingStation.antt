@@ -1,8 +1,6 @@
 -- Worked rows of the player: what an end owes and sends as a station, each line of it decided by a row.
-use Rattle.std.proofs.Common.{[], ◌∷◌, ◌++◌}
-use Rattle.std.specs.Prelude.{codes}
-use Rattle.dna_play.specs.Script.{Start, Halt, Timer, Send, Deliver, Refuse, Lose, Damage, Noise, Open}
-use Rattle.dna_play.specs.Stop.{BadStep}
+use Rattle.dna_rows.proofs.Prelude.{[], ◌∷◌, ◌++◌, codes, Timer, Send, Deliver, Refuse, Lose, Damage, Noise, Open, BadStep}
+use Rattle.dna_play.specs.Script.{Start, Halt}
 use Rattle.dna_rows.proofs.Units.{hex}
 use Rattle.dna_rows.proofs.Scripts.{ASendsOne, BSendsOne, a, b, s, r, n, IsBad, ASends, BSends, Adds, Captures, StopsAt, running, called, playing}
 

@@ -1,10 +1,8 @@
 -- Longer scripts of the player, and their captures.
-use Rattle.std.proofs.Common.{List, [], ◌∷◌}
-use Rattle.std.specs.Prelude.{replicate, codes}
-use Rattle.capture_record.specs.declared.record.Record.{Record}
-use Rattle.capture_record.specs.declared.record.Record.TheVariants.{User}
+use Rattle.dna_rows.proofs.Prelude.{List, [], ◌∷◌, replicate, codes, Record, User, ScriptStep, Timer, Send, Deliver, Refuse, Lose, Damage, Open}
+use Rattle.dna_rows.proofs.Prelude.{Accept, Reject, Close, Retry}
 use Rattle.capture_record.specs.declared.event.Event.TheVariants as event
-use Rattle.dna_play.specs.Script.{ScriptStep, Start, Timer, Send, Deliver, Refuse, Lose, Damage, Open, Accept, Reject, In, Close, Retry}
+use Rattle.dna_play.specs.Script.{Start, In}
 use Rattle.dna_rows.proofs.Units.{hex}
 use Rattle.dna_rows.proofs.Scripts.{a, b, s, r, k, PlaysBetween, Captures, playing}
 

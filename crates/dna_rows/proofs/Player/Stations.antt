@@ -1,10 +1,8 @@
 -- What a station sends of itself, in each of its states, and what becomes of what it owes.
-use Rattle.std.proofs.Common.{[], ◌∷◌, ◌++◌}
-use Rattle.capture_record.specs.declared.fate.Fate.TheVariants.{NotKept, Kept}
-use Rattle.capture_record.specs.declared.record.Record.TheVariants.{Sent, Received, Noise as OfNoise, User}
+use Rattle.dna_rows.proofs.Prelude.{[], ◌∷◌, ◌++◌, NotKept, Kept, Sent, Received, User, Timer, Send, Deliver, Refuse, Lose, Noise, Open, BadStep}
+use Rattle.capture_record.specs.declared.record.Record.TheVariants.{Noise as OfNoise}
 use Rattle.capture_record.specs.declared.event.Event.TheVariants as event
-use Rattle.dna_play.specs.Script.{Start, Halt, Timer, Send, Deliver, Refuse, Lose, Noise, Open}
-use Rattle.dna_play.specs.Stop.{BadStep}
+use Rattle.dna_play.specs.Script.{Start, Halt}
 use Rattle.dna_rows.proofs.Units.{STRT, STACK, ACK, NAK, REP, CI, CONNECT_ACK, data_a, data_b}
 use Rattle.dna_rows.proofs.Captures.{started, answered, acked_a, acked_b}
 use Rattle.dna_rows.proofs.Scripts.{a, b, Plays, Captures, StopsAt, running, playing}

@@ -1,15 +1,8 @@
 -- Worked rows of the player: the line of each kind of step, and the head, as they stand in the text of a script.
-use Rattle.std.proofs.Common.{◌≡◌, ℕ, List, [], ◌++◌, Some, refl, sym, arith}
-use Rattle.std.specs.Prelude.{codes}
-use Rattle.std.specs.Fmt.{decimal}
-use Rattle.capture.specs.Text.{bytes_text, address_text}
-use Rattle.capture.specs.Reading.{number_at, positive_at, address_at}
-use Rattle.capture.proofs.NumberLaws.{number_takes}
-use Rattle.capture.proofs.AddressLaws.{address_takes}
-use Rattle.dna_play.specs.Script.{Start, Halt, Boot, Timer, Send, Deliver, Refuse, Drop, Lose, Damage, Noise, Open, Accept, Reject, In, Close, Abort}
-use Rattle.dna_play.specs.Script.{Retry}
-use Rattle.capture.specs.Listed.{list_head}
-use Rattle.dna_play.specs.ScriptText.{line_text, script_form}
+use Rattle.dna_rows.proofs.Prelude.{◌≡◌, ℕ, List, [], ◌++◌, Some, refl, sym, arith, codes, decimal, bytes_text, address_text, number_at}
+use Rattle.dna_rows.proofs.Prelude.{positive_at, address_at, number_takes, address_takes, Timer, Send, Deliver, Refuse, Drop, Lose, Damage, Noise}
+use Rattle.dna_rows.proofs.Prelude.{Open, Accept, Reject, Close, Abort, Retry, list_head, line_text, script_form}
+use Rattle.dna_play.specs.Script.{Start, Halt, Boot, In}
 use Rattle.dna_rows.proofs.Scripts.{a, b}
 
 -- a number as it is spelled

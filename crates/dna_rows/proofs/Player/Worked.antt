@@ -1,11 +1,8 @@
 -- The worked script of the player: one unit is lost, one damaged, and one packet finds no buffer.
-use Rattle.std.proofs.Common.{◌≡◌, [], ◌∷◌, List}
-use Rattle.std.specs.Prelude.{codes}
-use Rattle.capture_record.specs.declared.record.Record.{Record}
-use Rattle.capture_record.specs.declared.record.Record.TheVariants.{User}
+use Rattle.dna_rows.proofs.Prelude.{◌≡◌, [], ◌∷◌, List, codes, Record, User, ScriptStep, Timer, Send, Deliver, Refuse, Lose, Damage, Noise, Open}
+use Rattle.dna_rows.proofs.Prelude.{Close, BadStep}
 use Rattle.capture_record.specs.declared.event.Event.TheVariants as event
-use Rattle.dna_play.specs.Script.{ScriptStep, Start, Timer, Send, Deliver, Refuse, Lose, Damage, Noise, Open, Close}
-use Rattle.dna_play.specs.Stop.{BadStep}
+use Rattle.dna_play.specs.Script.{Start}
 use Rattle.dna_rows.proofs.Scripts.{a, b, s, r, k, n, Plays, Captures, StopsAt, playing}
 use Rattle.dna_rows.proofs.Layers.Rows.{player_example_a, player_example_b}
 

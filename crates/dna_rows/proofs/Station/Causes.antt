@@ -1,11 +1,7 @@
 -- The causes of NAKs: they are counted, each for its own reason, and nothing but a NAK of that reason uses one up.
-use Rattle.std.proofs.Common.{ℕ, List, [], ◌∷◌, ◌++◌}
-use Rattle.wire_base.specs.declared.side.Side.TheVariants.{B}
-use Rattle.capture_record.specs.declared.fate.Fate.TheVariants.{NotKept, Kept}
-use Rattle.capture_record.specs.declared.record.Record.TheVariants.{Sent, Received, Noise}
-use Rattle.dna_station.specs.declared.refusal.StationRefusal.TheVariants.{NoCause}
+use Rattle.dna_rows.proofs.Prelude.{ℕ, List, [], ◌∷◌, ◌++◌, B, NotKept, Kept, Sent, Received, NoCause, Accepted}
+use Rattle.capture_record.specs.declared.record.Record.TheVariants.{Noise}
 use Rattle.dna_station.specs.declared.refusal.StepRefusal.TheVariants.{Station as OfStation}
-use Rattle.dna_node.specs.declared.finding.Finding.TheVariants.{Accepted}
 use Rattle.dna_rows.proofs.Verdicts.{Verdict, verdict}
 use Rattle.dna_rows.proofs.Units.{computing, DATA, ACK, NAK, REP, data_of}
 use Rattle.dna_rows.proofs.Captures.{started, answered, acked_a, acked_b, refused}

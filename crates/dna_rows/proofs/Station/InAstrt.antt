@@ -1,10 +1,6 @@
 -- Pairs of captures that tell a rule from its turn, computed from the definitions: what comes in ASTRT. For the names see `InHalted`.
-use Rattle.std.proofs.Common.{[], ◌∷◌, ◌++◌}
-use Rattle.wire_base.specs.declared.side.Side.TheVariants.{B}
-use Rattle.capture_record.specs.declared.fate.Fate.TheVariants.{NotKept, Kept}
-use Rattle.capture_record.specs.declared.record.Record.TheVariants.{Sent, Received, User}
-use Rattle.capture_record.specs.declared.event.Event.TheVariants.{Start, Halt}
-use Rattle.dna_station.specs.declared.refusal.StationRefusal.TheVariants.{WrongState, WrongResponse, NoCause, WrongKeep, CrossedPeriod}
+use Rattle.dna_rows.proofs.Prelude.{[], ◌∷◌, ◌++◌, B, NotKept, Kept, Sent, Received, User, Start, Halt, WrongState, WrongResponse, NoCause}
+use Rattle.dna_rows.proofs.Prelude.{WrongKeep, CrossedPeriod}
 use Rattle.dna_rows.proofs.Units.{computing, STRT, STACK, ACK, NAK, REP, DATA}
 use Rattle.dna_rows.proofs.Captures.{started, answered}
 use Rattle.dna_rows.proofs.Courses.{runs, ends}

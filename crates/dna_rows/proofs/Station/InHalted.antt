@@ -1,11 +1,6 @@
 -- Pairs of captures that tell a rule from its turn, computed from the definitions: what comes in HALTED. A row is named for the state, the
 -- message, and the turn whose answer is another: an effect left out or added, another need, or a receipt that says it kept a packet.
-use Rattle.std.proofs.Common.{[], ◌∷◌, ◌++◌}
-use Rattle.wire_base.specs.declared.side.Side.TheVariants.{A, B}
-use Rattle.capture_record.specs.declared.fate.Fate.TheVariants.{NotKept, Kept}
-use Rattle.capture_record.specs.declared.record.Record.TheVariants.{Sent, Received, User}
-use Rattle.capture_record.specs.declared.event.Event.TheVariants.{Start, Halt}
-use Rattle.dna_station.specs.declared.refusal.StationRefusal.TheVariants.{WrongKeep}
+use Rattle.dna_rows.proofs.Prelude.{[], ◌∷◌, ◌++◌, A, B, NotKept, Kept, Sent, Received, User, Start, Halt, WrongKeep}
 use Rattle.dna_rows.proofs.Units.{computing, STRT, STACK, ACK, NAK, REP, DATA}
 use Rattle.dna_rows.proofs.Captures.{started, answered}
 use Rattle.dna_rows.proofs.Courses.{runs, ends}

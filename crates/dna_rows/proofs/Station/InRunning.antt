@@ -1,11 +1,6 @@
 -- Pairs of captures that tell a rule from its turn, computed from the definitions: what comes in RUNNING. For the names see `InHalted`.
-use Rattle.std.proofs.Common.{[], ◌∷◌, ◌++◌}
-use Rattle.wire_base.specs.declared.side.Side.TheVariants.{A, B}
-use Rattle.capture_record.specs.declared.fate.Fate.TheVariants.{NotKept, Kept}
-use Rattle.capture_record.specs.declared.record.Record.TheVariants.{Sent, Received, User}
-use Rattle.capture_record.specs.declared.event.Event.TheVariants.{Start, Halt}
-use Rattle.dna_station.specs.declared.refusal.StationRefusal.TheVariants.{WrongState, WrongNumber, WrongResponse, NoCause, WrongKeep, CrossedPeriod}
-use Rattle.dna_station.specs.declared.refusal.StationRefusal.TheVariants.{WrongUserEvent}
+use Rattle.dna_rows.proofs.Prelude.{[], ◌∷◌, ◌++◌, A, B, NotKept, Kept, Sent, Received, User, Start, Halt, WrongState, WrongNumber, WrongResponse}
+use Rattle.dna_rows.proofs.Prelude.{NoCause, WrongKeep, CrossedPeriod, WrongUserEvent}
 use Rattle.dna_rows.proofs.Units.{computing, STRT, STACK, ACK, NAK, REP, DATA}
 use Rattle.dna_rows.proofs.Captures.{started, answered}
 use Rattle.dna_rows.proofs.Courses.{runs, ends}

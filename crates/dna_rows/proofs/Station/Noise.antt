@@ -1,13 +1,6 @@
 -- Worked rows of noise, and pairs of captures that tell its rules from their turns, computed from the definitions.
-use Rattle.std.proofs.Common.{List, [], ◌∷◌, ◌++◌, ℕ}
-use Rattle.two_nodes.specs.Nodes.{Refused}
-use Rattle.wire_base.specs.declared.side.Side.TheVariants.{A, B}
-use Rattle.capture_record.specs.declared.fate.Fate.TheVariants.{NotKept, Kept}
-use Rattle.capture_record.specs.declared.record.Record.{Record}
-use Rattle.capture_record.specs.declared.record.Record.TheVariants.{Sent, Received, Noise, User}
-use Rattle.capture_record.specs.declared.event.Event.TheVariants.{Start}
-use Rattle.dna_station.specs.declared.refusal.StationRefusal.TheVariants.{NoCause}
-use Rattle.dna_station.specs.declared.refusal.StepRefusal.TheVariants.{NotNoise}
+use Rattle.dna_rows.proofs.Prelude.{List, [], ◌∷◌, ◌++◌, ℕ, Refused, A, B, NotKept, Kept, Record, Sent, Received, User, Start, NoCause, NotNoise}
+use Rattle.capture_record.specs.declared.record.Record.TheVariants.{Noise}
 use Rattle.dna_rows.proofs.Units.{computing, STRT, STACK, ACK, NAK, DATA}
 use Rattle.dna_rows.proofs.Captures.{started, answered}
 use Rattle.dna_rows.proofs.Courses.{runs, ends}

@@ -1,13 +1,7 @@
 -- Worked rows where two reasons fit one record, computed from the definitions like the other rows: the order of the checks decides which
 -- of them is named.
-use Rattle.std.proofs.Common.{[], ◌∷◌, ◌++◌}
-use Rattle.two_nodes.specs.Nodes.{Refused}
-use Rattle.wire_base.specs.declared.side.Side.TheVariants.{A, B}
-use Rattle.capture_record.specs.declared.fate.Fate.TheVariants.{NotKept, Kept}
-use Rattle.capture_record.specs.declared.record.Record.TheVariants.{Sent, Received, User}
-use Rattle.capture_record.specs.declared.event.Event.TheVariants.{Start}
-use Rattle.dna_station.specs.declared.refusal.StationRefusal.TheVariants.{WrongState, WrongNumber, WrongResponse, CrossedPeriod}
-use Rattle.dna_station.specs.declared.refusal.StepRefusal.TheVariants.{HintOrder, Undetected}
+use Rattle.dna_rows.proofs.Prelude.{[], ◌∷◌, ◌++◌, Refused, A, B, NotKept, Kept, Sent, Received, User, Start, WrongState, WrongNumber}
+use Rattle.dna_rows.proofs.Prelude.{WrongResponse, CrossedPeriod, HintOrder, Undetected}
 use Rattle.dna_rows.proofs.Units.{computing, STRT, STACK, ACK, NAK, REP, DATA, data_of}
 use Rattle.dna_rows.proofs.Captures.{answered, acked_a}
 use Rattle.dna_rows.proofs.Courses.{ends}

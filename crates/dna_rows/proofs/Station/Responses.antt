@@ -1,11 +1,6 @@
 -- What RESP acknowledges, and where the next to send then lies.
-use Rattle.std.proofs.Common.{[], ◌∷◌, ◌++◌}
-use Rattle.wire_base.specs.declared.side.Side.TheVariants.{A, B}
-use Rattle.capture_record.specs.declared.fate.Fate.TheVariants.{NotKept, Kept}
-use Rattle.capture_record.specs.declared.record.Record.TheVariants.{Sent, Received}
-use Rattle.dna_station.specs.declared.refusal.StationRefusal.TheVariants.{WrongState, WrongNumber}
+use Rattle.dna_rows.proofs.Prelude.{[], ◌∷◌, ◌++◌, A, B, NotKept, Kept, Sent, Received, WrongState, WrongNumber, Accepted}
 use Rattle.dna_station.specs.declared.refusal.StepRefusal.TheVariants.{Station as OfStation}
-use Rattle.dna_node.specs.declared.finding.Finding.TheVariants.{Accepted}
 use Rattle.dna_rows.proofs.Verdicts.{Verdict, verdict}
 use Rattle.dna_rows.proofs.Units.{computing, DATA, ACK, NAK, REP, data_of}
 use Rattle.dna_rows.proofs.Captures.{started, answered, acked_a, acked_b, refused}

@@ -1,12 +1,8 @@
 -- Pairs of captures that tell a rule from its turn, computed from the definitions: what is sent. A row is named for the state, the message,
 -- and the turn whose answer is another: a check or an effect left out or added. One that is named for state and message alone tells whether
 -- the message is allowed. A caused NAK has reason 1, 2, 3 or 8, a free one 9, 16 or 17. The full window stands in `Windows`.
-use Rattle.std.proofs.Common.{[], ◌∷◌, ◌++◌}
-use Rattle.wire_base.specs.declared.side.Side.TheVariants.{A, B}
-use Rattle.capture_record.specs.declared.fate.Fate.TheVariants.{NotKept}
-use Rattle.capture_record.specs.declared.record.Record.TheVariants.{Sent, Received, User}
-use Rattle.capture_record.specs.declared.event.Event.TheVariants.{Start, Halt}
-use Rattle.dna_station.specs.declared.refusal.StationRefusal.TheVariants.{WrongState, WrongNumber, WrongResponse, Changed, NoCause}
+use Rattle.dna_rows.proofs.Prelude.{[], ◌∷◌, ◌++◌, A, B, NotKept, Sent, Received, User, Start, Halt, WrongState, WrongNumber, WrongResponse}
+use Rattle.dna_rows.proofs.Prelude.{Changed, NoCause}
 use Rattle.dna_rows.proofs.Units.{computing, STRT, STACK, ACK, NAK, REP, DATA, data_of}
 use Rattle.dna_rows.proofs.Captures.{started, answered}
 use Rattle.dna_rows.proofs.Courses.{runs, ends}

@@ -1,14 +1,7 @@
 -- Worked rows of startup, computed from the definitions: an accepted row is its run, one record after another; a refused row is the
 -- answer to its last record in the world that the earlier ones lead to.
-use Rattle.std.proofs.Common.{List, [], ◌∷◌, ◌++◌}
-use Rattle.two_nodes.specs.Nodes.{Waits, Refused}
-use Rattle.wire_base.specs.declared.side.Side.TheVariants.{B}
-use Rattle.capture_record.specs.declared.fate.Fate.TheVariants.{NotKept, Kept}
-use Rattle.capture_record.specs.declared.record.Record.{Record}
-use Rattle.capture_record.specs.declared.record.Record.TheVariants.{Sent, Received, User}
-use Rattle.capture_record.specs.declared.event.Event.TheVariants.{Start, Halt}
-use Rattle.dna_station.specs.declared.refusal.StationRefusal.TheVariants.{WrongState, WrongResponse, WrongKeep, CrossedPeriod, WrongUserEvent}
-use Rattle.dna_station.specs.declared.refusal.StepRefusal.TheVariants.{NotAMessage, HintOrder, Undetected}
+use Rattle.dna_rows.proofs.Prelude.{List, [], ◌∷◌, ◌++◌, Waits, Refused, B, NotKept, Kept, Record, Sent, Received, User, Start, Halt, WrongState}
+use Rattle.dna_rows.proofs.Prelude.{WrongResponse, WrongKeep, CrossedPeriod, WrongUserEvent, NotAMessage, HintOrder, Undetected}
 use Rattle.dna_rows.proofs.Units.{computing, STRT, STACK, ACK}
 use Rattle.dna_rows.proofs.Courses.{runs, ends}
 use Rattle.dna_rows.proofs.Station.Units.{Runs, EndsAt, refused}

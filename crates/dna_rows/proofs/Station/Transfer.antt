@@ -1,17 +1,10 @@
 -- Worked rows of data transfer, computed from the definitions like those of startup.
-use Rattle.std.proofs.Common.{List, [], ◌∷◌, ◌++◌, ◌≡◌}
-use Rattle.wire_base.specs.declared.side.Side.TheVariants.{A, B}
-use Rattle.capture_record.specs.declared.fate.Fate.TheVariants.{NotKept, Kept}
-use Rattle.capture_record.specs.declared.record.Record.{Record}
-use Rattle.capture_record.specs.declared.record.Record.TheVariants.{Sent, Received, User}
-use Rattle.capture_record.specs.declared.event.Event.TheVariants.{Start, Halt}
-use Rattle.dna_station.specs.declared.refusal.StationRefusal.TheVariants.{WrongState, WrongNumber, WrongResponse, Changed, NoCause, WrongKeep}
-use Rattle.dna_station.specs.declared.refusal.StationRefusal.TheVariants.{WrongUserEvent}
+use Rattle.dna_rows.proofs.Prelude.{List, [], ◌∷◌, ◌++◌, ◌≡◌, A, B, NotKept, Kept, Record, Sent, Received, User, Start, Halt, WrongState}
+use Rattle.dna_rows.proofs.Prelude.{WrongNumber, WrongResponse, Changed, NoCause, WrongKeep, WrongUserEvent, offered}
 use Rattle.dna_rows.proofs.Units.{computing, ACK, NAK, REP, DATA, data_of}
 use Rattle.dna_rows.proofs.Captures.{answered, acked_a}
 use Rattle.dna_rows.proofs.Courses.{runs, ends}
 use Rattle.dna_rows.proofs.Station.Units.{damaged_DATA, Runs, EndsAt, refused}
-use Rattle.dna_station.specs.Offered.{offered}
 
 -- the second packet comes first: it ends b's startup and is not taken
 abbrev second_first_a : List Record

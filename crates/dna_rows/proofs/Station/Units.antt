@@ -1,16 +1,7 @@
 -- How a row of two stations alone is stated, and the units of these rows as their bytes stand on the line.
-use Rattle.std.proofs.Common.{◌≡◌, ℕ, false, List, [], ◌∷◌}
-use Rattle.std.specs.Prelude.{codes}
-use Rattle.two_nodes.specs.Nodes.{Outcome, Refused}
-use Rattle.wire_base.specs.declared.side.Side.{Side}
-use Rattle.ddcmp_msg.specs.declared.flags.Flags.{Flags}
-use Rattle.capture_record.specs.declared.record.Record.{Record}
-use Rattle.dna_station.specs.declared.refusal.StationRefusal.{StationRefusal}
-use Rattle.dna_station.specs.declared.refusal.StepRefusal.{StepRefusal}
+use Rattle.dna_rows.proofs.Prelude.{◌≡◌, ℕ, false, List, [], ◌∷◌, codes, Outcome, Refused, Side, Flags, Record, StationRefusal, StepRefusal}
+use Rattle.dna_rows.proofs.Prelude.{SentUnit, Node, pair, start}
 use Rattle.dna_station.specs.declared.refusal.StepRefusal.TheVariants.{Station as OfStation}
-use Rattle.dna_station.specs.Line.{SentUnit}
-use Rattle.dna_station.specs.Node.{Node}
-use Rattle.dna_station.specs.Pair.{pair, start}
 use Rattle.dna_rows.proofs.Courses.{head_1, head_2}
 use Rattle.dna_rows.proofs.Courses as any
 use Rattle.dna_rows.proofs.Units.{computing, hex, STRT, STACK, ACK, NAK, REP, DATA, data_of}

@@ -1,13 +1,7 @@
 -- Pairs of captures that tell a rule from its turn, computed from the definitions like the other rows: what the user does, and the line.
 -- A row is named for the state, the event, and the turn whose answer is another: a start that is refused, or keeps what it has to drop.
-use Rattle.std.proofs.Common.{[], ◌∷◌, ◌++◌}
-use Rattle.two_nodes.specs.Nodes.{Waits, Refused}
-use Rattle.wire_base.specs.declared.side.Side.TheVariants.{A, B}
-use Rattle.capture_record.specs.declared.fate.Fate.TheVariants.{NotKept, Kept}
-use Rattle.capture_record.specs.declared.record.Record.TheVariants.{Sent, Received, User}
-use Rattle.capture_record.specs.declared.event.Event.TheVariants.{Start, Halt}
-use Rattle.dna_station.specs.declared.refusal.StationRefusal.TheVariants.{WrongState, NoCause, CrossedPeriod, WrongUserEvent}
-use Rattle.dna_station.specs.declared.refusal.StepRefusal.TheVariants.{NotAMessage, HintOrder, Undetected}
+use Rattle.dna_rows.proofs.Prelude.{[], ◌∷◌, ◌++◌, Waits, Refused, A, B, NotKept, Kept, Sent, Received, User, Start, Halt, WrongState, NoCause}
+use Rattle.dna_rows.proofs.Prelude.{CrossedPeriod, WrongUserEvent, NotAMessage, HintOrder, Undetected}
 use Rattle.dna_rows.proofs.Units.{computing, STRT, STACK, ACK, NAK, REP, DATA, data_of}
 use Rattle.dna_rows.proofs.Captures.{started, answered}
 use Rattle.dna_rows.proofs.Courses.{runs, ends}

@@ -1,14 +1,10 @@
 -- Worked rows of one station, computed from the definitions: the full window, and numbers beyond one byte.
-use Rattle.std.proofs.Common.{◌≡◌, ℕ, zero, suc, ◌+◌, false, Option, Some, None, List, [], ◌∷◌, replicate, fold}
-use Rattle.ddcmp_msg.specs.Message.{MessageValue, Data, Nak, Rep}
-use Rattle.ddcmp_msg.specs.declared.nak_reason.NakReason.TheVariants.{RepResponse}
+use Rattle.dna_rows.proofs.Prelude.{◌≡◌, ℕ, zero, suc, ◌+◌, false, Option, Some, None, List, [], ◌∷◌, replicate, fold, MessageValue, Data, Nak, Rep}
+use Rattle.dna_rows.proofs.Prelude.{RepResponse, StationRefusal, WindowFull, NoCause, Station, new_station, after_event, sending_refusal}
+use Rattle.dna_rows.proofs.Prelude.{after_sending, truth_of, after_arrival, Sound}
 use Rattle.dna_station.specs.declared.state.State.TheVariants.{Running}
 use Rattle.dna_station.specs.declared.state.StationEvent.TheVariants.{Start, Halt}
-use Rattle.dna_station.specs.declared.refusal.StationRefusal.{StationRefusal}
-use Rattle.dna_station.specs.declared.refusal.StationRefusal.TheVariants.{WindowFull, NoCause}
-use Rattle.dna_station.specs.Station.{Station, new_station, after_event, wire}
-use Rattle.dna_station.specs.StationBook.{sending_refusal, after_sending, truth_of, after_arrival}
-use Rattle.dna_station.specs.Book.{Sound}
+use Rattle.dna_station.specs.Station.{wire}
 use Rattle.dna_rows.proofs.Station.Units.{plain}
 
 -- in RUNNING, with nothing sent or received

@@ -142,7 +142,8 @@ module _ {L : Type 0} where
             alike _ (arrival_refusal of_period own.state.station (Sound unit.message unit.known) (is_kept fate))
             (wire_after_arrival (station_seen own.state.station) (Sound unit.message unit.known.tag) (is_kept fate))
             (after_arrival own.state.station (Sound unit.message unit.known) (is_kept fate))
-            (sym (arrival_refusal_same {L = L} (unlabelled own.state.station.packets) of_period own.state.station unit.message unit.known (is_kept fate)
+            (sym (arrival_refusal_same {L = L} (unlabelled own.state.station.packets) of_period own.state.station unit.message unit.known
+            (is_kept fate)
             within))
             (λ e. sym (arrival_same (unlabelled own.state.station.packets) own.state.station (unlabelled_bodies L own.state.station.packets)
             bounded.ordered unit.message unit.known (is_kept fate) (within (not_crossed own.state.station unit.message unit.known (is_kept fate) e)))

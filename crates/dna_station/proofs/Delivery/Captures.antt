@@ -19,7 +19,8 @@ use Rattle.dna_station.specs.Book.{ArrivalValue, HeaderBad, DataBad, Sound}
 use Rattle.dna_station.specs.StationBook.{after_sending, arrival_refusal, after_arrival}
 use Rattle.dna_station.specs.Line.{SentUnit}
 use Rattle.dna_station.specs.Node.{Node}
-use Rattle.dna_station.proofs.Steps.Happens.{Happens, Nothing, UserEvent, Boots, Sending, Receipt, Counted, Unheard, ComesOf, Itself, BadHeader, BadData}
+use Rattle.dna_station.proofs.Steps.Happens.{Happens, Nothing, UserEvent, Boots, Sending, Receipt}
+use Rattle.dna_station.proofs.Steps.Happens.{Counted, Unheard, ComesOf, Itself, BadHeader, BadData}
 use Rattle.dna_station.proofs.Bounds.Stations.{IsSound}
 use Rattle.dna_station.proofs.Steps.Effects.{Stays, sending_stays}
 use Rattle.dna_station.proofs.Delivery.Steps.{TookBy, Took, arrival_took, unkept}
@@ -69,8 +70,10 @@ module _ (s t : Station) (hint : ℕ) (fate : Fate) (bytes : List ℕ) (unit : S
   -- the packet that was taken is the one of these bytes
   as_delivered : (is_kept fate ≡ true → reading bytes ≡ read_as.Sound unit.message) → TookBy s t unit.message unit.known (is_kept fate) →
       taken_by_period t ≡ delivered_by (taken_by_period s) (Received hint fate bytes)
-  as_delivered read (inl (n, none)) = same_taken s t stays.earlier n.taken ∙ not_kept (taken_by_period s) (is_kept fate) (packet_in (reading bytes)) none
-  as_delivered read (inr (inl (p, none))) = same_taken s t stays.earlier p.taken ∙ not_kept (taken_by_period s) (is_kept fate) (packet_in (reading bytes)) none
+  as_delivered read (inl (n, none)) = same_taken s t stays.earlier n.taken
+      ∙ not_kept (taken_by_period s) (is_kept fate) (packet_in (reading bytes)) none
+  as_delivered read (inr (inl (p, none))) =
+      same_taken s t stays.earlier p.taken ∙ not_kept (taken_by_period s) (is_kept fate) (packet_in (reading bytes)) none
   as_delivered read (inr (inr (p, was))) =
       more_taken s t (p.body ∷ []) stays.earlier p.taken
       ∙ was_kept (taken_by_period s) (is_kept fate) bytes p.body was

@@ -81,7 +81,8 @@ module _ (own other : Half Node SentUnit) (h : IsSound own.state own.sent other.
   order_own r left (Receipt hint fate bytes unit arrival there ahead of_unit allowed) =
       let took = arrival_took own.state.station unit bytes arrival (is_kept fate) of_unit h.none allowed in
       record {
-        partnered = receipt_partnered own.state own.sent other.sent (after_arrival own.state.station arrival (is_kept fate)) unit.message unit.known (is_kept fate) h o
+        partnered = receipt_partnered own.state own.sent other.sent (after_arrival own.state.station arrival (is_kept fate)) unit.message unit.known
+            (is_kept fate) h o
             took p.partnered;
         takes = receipt_takes hint (is_kept fate) unit (after_arrival own.state.station arrival (is_kept fate)) there ahead took.0 took.1;
       }

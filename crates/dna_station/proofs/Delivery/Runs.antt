@@ -123,10 +123,13 @@ module _ (own other : Half Node SentUnit) (h : IsSound own.state own.sent other.
         let count = length_push other.state.station.earlier (past other.state.station) in
         let same = p.count in
         record {
-          offers = receipt_offers own.state.station (after_arrival own.state.station arrival (is_kept fate)) unit.message unit.known (is_kept fate) took own.sent o;
-          delivers = receipt_delivers own.state.station (after_arrival own.state.station arrival (is_kept fate)) unit.message unit.known (is_kept fate) took
+          offers = receipt_offers own.state.station (after_arrival own.state.station arrival (is_kept fate)) unit.message unit.known (is_kept fate)
+              took own.sent o;
+          delivers = receipt_delivers own.state.station (after_arrival own.state.station arrival (is_kept fate)) unit.message unit.known
+              (is_kept fate) took
               (periods other.state.station) o.taken_count (omega arith) (p.offered hint unit there) d;
-          grows = receipt_grows own.state.station (after_arrival own.state.station arrival (is_kept fate)) unit.message unit.known (is_kept fate) took;
+          grows = receipt_grows own.state.station (after_arrival own.state.station arrival (is_kept fate)) unit.message unit.known (is_kept fate)
+              took;
         }
 
 pub new_offers : Offers new_station []

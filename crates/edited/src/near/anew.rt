@@ -116,7 +116,7 @@ fn replaced(line: u64, put: Vec<u8>) -> Change {
     }
 }
 
-// A change after the head, with the head that it needs; `None` where each hint would be another number.
+// A change after the head, with the head that it needs; `None` where each hint would be another number, and in a part of a run.
 fn in_format_3(near: Near<'_>, change: Change) -> Result<Option<Vec<Change>>, AllocError> {
     match near.row.form {
         HintForm::Wide => {
@@ -124,7 +124,7 @@ fn in_format_3(near: Near<'_>, change: Change) -> Result<Option<Vec<Change>>, Al
             changes.push(change)?;
             Ok(Some(changes))
         }
-        HintForm::Distance { mark: _ } => Ok(None),
+        HintForm::Distance { mark: _ } | HintForm::Part => Ok(None),
         HintForm::Number => {
             let (own, peer) = near.head;
             let mut first = Vec::new(near.alloc);

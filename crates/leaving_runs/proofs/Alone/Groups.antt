@@ -1,34 +1,17 @@
 -- Whole groups are alike, of what one end binds.
-use Rattle.std.proofs.Common.{◌≡◌, ℕ, suc, ◌<◌, ◌^◌, Bool, true, false, ◌==◌, cond, Option, Some, None, Result, Ok, Err, List, []}
-use Rattle.std.proofs.Common.{◌∷◌, refl, subst, arith}
-use Rattle.std.specs.List.{AllByRecursion, Contains}
+use Rattle.leaving_runs.proofs.Prelude.{◌≡◌, ℕ, suc, ◌<◌, ◌^◌, Bool, true, false, ◌==◌, cond, Option, Some, None, Result, Ok, Err, List, [], ◌∷◌}
+use Rattle.leaving_runs.proofs.Prelude.{refl, subst, arith, AllByRecursion, Contains, Side, other_side, IsBytes, ReadingValue, reading, IsRecord}
+use Rattle.leaving_runs.proofs.Prelude.{Record, Sent, Received, Noise, User, NspFault, PacketFault, PacketValue, Control, packet_bytes, packet_at}
+use Rattle.leaving_runs.proofs.Prelude.{FieldsFit, NspValue, ConnectAck, ConnectInitiate, ConnectConfirm, nsp_at, nsp_takes, packet_takes, Binding}
+use Rattle.leaving_runs.proofs.Prelude.{AreWhole, Leaving, binding_of, bindings_of, confirmed, bound, bound_if_named, if_bound, if_read}
+use Rattle.leaving_runs.proofs.Prelude.{message_in_unit, message_of, message_within, packet_of, IsAlike, AreAlikeAlone, AreAmongAlone}
 use Rattle.std.specs.Option.{IfSome}
-use Rattle.wire_base.specs.declared.side.Side.{Side}
-use Rattle.wire_base.specs.Side.{other_side}
-use Rattle.ddcmp_msg.specs.Message.{IsBytes}
 use Rattle.ddcmp_msg.specs.Message as messages
-use Rattle.ddcmp_msg.specs.Reading.{ReadingValue, reading}
 use Rattle.ddcmp_msg.specs.Reading as read_as
-use Rattle.capture_record.specs.Range.{IsRecord}
 use Rattle.capture_record.specs.declared.event.Event.TheVariants as events
-use Rattle.capture_record.specs.declared.record.Record.{Record}
-use Rattle.capture_record.specs.declared.record.Record.TheVariants.{Sent, Received, Noise, User}
-use Rattle.dna_packet.specs.declared.fault.NspFault.{NspFault}
-use Rattle.dna_packet.specs.declared.fault.PacketFault.{PacketFault}
-use Rattle.dna_packet.specs.Packet.{PacketValue, Data, Control, packet_bytes}
-use Rattle.dna_packet.specs.ReadingPacket.{packet_at}
-use Rattle.dna_packet.specs.Nsp.{FieldsFit, NspValue, ConnectAck, ConnectInitiate}
-use Rattle.dna_packet.specs.Nsp.{ConnectConfirm}
-use Rattle.dna_packet.specs.ReadingNsp.{nsp_at}
-use Rattle.dna_packet.proofs.NspTakes.{nsp_takes}
-use Rattle.dna_packet.proofs.PacketLemmas.{packet_takes}
-use Rattle.link_groups.specs.Groups.{Binding}
-use Rattle.link_groups.specs.LeftOut.{AreWhole}
-use Rattle.leaving_out.specs.declared.leaving.Leaving.{Leaving}
-use Rattle.leaving_out.specs.About.{answered, binding_of, bindings_of, confirmed, bound, bound_if_named, if_bound}
-use Rattle.leaving_out.specs.Messages.{if_read, is_returned, message_in_unit, message_of, message_within, packet_of}
-use Rattle.leaving_runs.specs.Tied.{IsAlike}
-use Rattle.leaving_runs.specs.OneEnd.{AreAlikeAlone, AreAmongAlone}
+use Rattle.dna_packet.specs.Packet.{Data}
+use Rattle.leaving_out.specs.About.{answered}
+use Rattle.leaving_out.specs.Messages.{is_returned}
 use Rattle.leaving_runs.proofs.Bytes.{body_bytes}
 use Rattle.leaving_runs.proofs.Groups.{alike, first_bound, later_bound}
 

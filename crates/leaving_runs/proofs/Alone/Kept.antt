@@ -1,41 +1,15 @@
 -- A sound unit that comes: what is made of it, and of its packet where that is kept, goes along.
-use Rattle.std.proofs.Common.{◌≡◌, ℕ, Bool, true, false, cond, Option, Some, None, Result, Ok, Err, List, []}
-use Rattle.std.proofs.Common.{◌⊎◌, inl, inr, refl, sym, ap, ap₂, ◌∙◌, subst}
-use Rattle.std.specs.Prelude.{IfSome}
-use Rattle.ddcmp_msg.specs.Message.{MessageValue, IsBytes}
-use Rattle.ddcmp_msg.specs.Reading.{ReadingValue, reading}
+use Rattle.leaving_runs.proofs.Prelude.{◌≡◌, ℕ, Bool, true, false, cond, Option, Some, None, Result, Ok, Err, List, [], ◌⊎◌, inl, inr, refl, sym}
+use Rattle.leaving_runs.proofs.Prelude.{ap, ap₂, ◌∙◌, subst, IfSome, MessageValue, IsBytes, ReadingValue, reading, Fate, is_kept, is_met, NspValue}
+use Rattle.leaving_runs.proofs.Prelude.{StationRefusal, StepRefusal, LinkRefusal, SendPacket, change_of, of_any_period, Sound, body_of}
+use Rattle.leaving_runs.proofs.Prelude.{unless_refused, WireStation, wire_arrival_refusal, wire_after_arrival, Queues, LinkTag, Carried, of_anyone}
+use Rattle.leaving_runs.proofs.Prelude.{WireLinks, wire_links_arrived, by_bytes_with, content, WireLayers, WireLayersNode, of_no_link}
+use Rattle.leaving_runs.proofs.Prelude.{with_wire_links, wire_keeps_packet, wire_meets_on, wrong_unit, wrong_message, wrong_carried, wrong_taken}
+use Rattle.leaving_runs.proofs.Prelude.{StepAlone, Makes, sends, meets, unless_wrong, then_unless_wrong, if_met, sound_comes, unknown_period}
+use Rattle.leaving_runs.proofs.Prelude.{unknown_tag, layers_end_by, message_in_unit, message_within, packet_of, source_of, destination_of, sent_out}
+use Rattle.leaving_runs.proofs.Prelude.{kept_out, MessageBinds, other_out, with_body, Leaves, fate_left, met_if}
 use Rattle.ddcmp_msg.specs.Reading as read_as
-use Rattle.capture_record.specs.declared.fate.Fate.{Fate}
 use Rattle.capture_record.specs.declared.fate.Fate.TheVariants as fates
-use Rattle.capture_record.specs.Fates.{is_kept, is_met}
-use Rattle.dna_packet.specs.Nsp.{NspValue}
-use Rattle.dna_station.specs.declared.refusal.StationRefusal.{StationRefusal}
-use Rattle.dna_station.specs.declared.refusal.StepRefusal.{StepRefusal}
-use Rattle.dna_station.specs.declared.link_refusal.LinkRefusal.{LinkRefusal}
-use Rattle.dna_station.specs.Table.{SendPacket, change_of}
-use Rattle.dna_station.specs.PeriodRule.{of_any_period}
-use Rattle.dna_station.specs.Book.{Sound, body_of}
-use Rattle.dna_station.specs.Machine.{unless_refused}
-use Rattle.dna_station.specs.WireStation.{WireStation}
-use Rattle.dna_station.specs.WireBook.{wire_arrival_refusal, wire_after_arrival}
-use Rattle.dna_links.specs.declared.queue.Queues.{Queues}
-use Rattle.dna_links.specs.declared.tag.LinkTag.{LinkTag}
-use Rattle.dna_links.specs.Links.{Carried}
-use Rattle.dna_links.specs.Arriving.{of_anyone}
-use Rattle.dna_links.specs.WireLinks.{WireLinks, wire_links_arrived}
-use Rattle.dna_node.specs.TagRules.{by_bytes_with}
-use Rattle.dna_node.specs.Content.{content}
-use Rattle.dna_node.specs.WireLayers.{WireLayers, WireLayersNode, of_no_link, with_wire_links, wire_keeps_packet, wire_meets_on}
-use Rattle.dna_node.specs.Accusing.{wrong_unit, wrong_message, wrong_carried, wrong_taken}
-use Rattle.dna_node.specs.Alone.{StepAlone, Makes, sends, meets, unless_wrong, then_unless_wrong, if_met, sound_comes}
-use Rattle.dna_node.specs.Alone.{unknown_period, unknown_tag, layers_end_by}
-use Rattle.leaving_out.specs.Messages.{message_in_unit, message_within, packet_of}
-use Rattle.dna_leaving.specs.LeftOut.{source_of, destination_of, sent_out, kept_out}
-use Rattle.dna_leaving.specs.Right.{MessageBinds}
-use Rattle.dna_leaving.specs.Worlds.{other_out}
-use Rattle.leaving_runs.specs.Stations.{with_body}
-use Rattle.leaving_runs.specs.Nodes.{Leaves}
-use Rattle.leaving_runs.specs.Records.{fate_left, met_if}
 use Rattle.leaving_runs.proofs.Bytes.{body_bytes, message_of_packet, within_data}
 use Rattle.leaving_runs.proofs.Users.{goes_between}
 use Rattle.leaving_runs.proofs.Alone.Units.{body_left, packet_or_none, IsJudgedComing, ComesFit, Layered, StepLeft, unit_left, unit_unread}

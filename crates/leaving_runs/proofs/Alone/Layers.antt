@@ -1,37 +1,16 @@
 -- What is left of one end over both layers, and what it makes of what the user of links does and of packets that are composed.
-use Rattle.std.proofs.Common.{◌≡◌, ℕ, Bool, true, false, cond, not, ◌&&◌, Option, Some, None, Result, Ok, Err, List, refl, sym, ap, ◌∙◌, subst}
-use Rattle.ddcmp_msg.specs.Message.{IsBytes}
-use Rattle.dna_station.specs.declared.refusal.StationRefusal.{StationRefusal}
-use Rattle.dna_station.specs.declared.refusal.StepRefusal.{StepRefusal}
-use Rattle.dna_station.specs.declared.refusal.StepRefusal.TheVariants.{BadPacket, BadNsp, Links as OfLinks}
-use Rattle.dna_packet.specs.declared.fault.PacketFault.{PacketFault}
-use Rattle.dna_packet.specs.declared.fault.NspFault.{NspFault}
-use Rattle.dna_packet.specs.Packet.{PacketValue}
+use Rattle.leaving_runs.proofs.Prelude.{◌≡◌, ℕ, Bool, true, false, cond, not, ◌&&◌, Option, Some, None, Result, Ok, Err, List, refl, sym, ap, ◌∙◌}
+use Rattle.leaving_runs.proofs.Prelude.{subst, IsBytes, StationRefusal, StepRefusal, BadPacket, BadNsp, PacketFault, NspFault, PacketValue}
+use Rattle.leaving_runs.proofs.Prelude.{NspValue, packet_at, nsp_at, LinkRefusal, unless_refused, WireStation, Queues, LinkTag, Carried}
+use Rattle.leaving_runs.proofs.Prelude.{LinkEventValue, WireSegments, WireLinks, wire_links_user}
+use Rattle.leaving_runs.proofs.Prelude.{wire_links_sent, by_bytes_with, content, content_of, is_returned, message_in, WireLayers, LayersTag}
+use Rattle.leaving_runs.proofs.Prelude.{with_wire_station, with_wire_links, with_wire_composed, wire_composes, OfUser, LeftOut, source_of}
+use Rattle.leaving_runs.proofs.Prelude.{destination_of, sent_out, kept_out, is_judged_there, event_out, message_out, EventBinds, other_out, Leaves}
+use Rattle.leaving_runs.proofs.Prelude.{PacketsFit}
+use Rattle.dna_station.specs.declared.refusal.StepRefusal.TheVariants.{Links as OfLinks}
 use Rattle.dna_packet.specs.Packet as packets
-use Rattle.dna_packet.specs.Nsp.{NspValue}
-use Rattle.dna_packet.specs.ReadingPacket.{packet_at}
-use Rattle.dna_packet.specs.ReadingNsp.{nsp_at}
-use Rattle.dna_station.specs.declared.link_refusal.LinkRefusal.{LinkRefusal}
-use Rattle.dna_station.specs.Machine.{unless_refused}
-use Rattle.dna_station.specs.WireStation.{WireStation}
-use Rattle.dna_links.specs.declared.queue.Queues.{Queues}
-use Rattle.dna_links.specs.declared.tag.LinkTag.{LinkTag}
-use Rattle.dna_links.specs.Links.{Carried}
-use Rattle.dna_links.specs.User.{LinkEventValue, Open, Accept, Reject, In, Up, Close, Boot, Abort}
 use Rattle.dna_links.specs.User as user
 use Rattle.dna_links.specs.Sending.{Sent}
-use Rattle.dna_links.specs.WireSegments.{WireSegments}
-use Rattle.dna_links.specs.WireLinks.{WireLinks, wire_links_user, wire_links_sent}
-use Rattle.dna_node.specs.TagRules.{by_bytes_with}
-use Rattle.dna_node.specs.Content.{content, content_of, is_returned, message_in}
-use Rattle.dna_node.specs.WireLayers.{WireLayers, LayersTag, with_wire_station, with_wire_links}
-use Rattle.dna_node.specs.WireLayers.{with_wire_composed, wire_composes}
-use Rattle.dna_leaving.specs.Records.{OfUser}
-use Rattle.dna_leaving.specs.LeftOut.{LeftOut, source_of, destination_of, sent_out, kept_out, is_judged_there, event_out, message_out}
-use Rattle.dna_leaving.specs.Right.{EventBinds}
-use Rattle.dna_leaving.specs.Worlds.{other_out}
-use Rattle.leaving_runs.specs.Nodes.{Leaves}
-use Rattle.leaving_runs.specs.Fitting.{PacketsFit}
 use Rattle.leaving_runs.proofs.Alone.Stations.{StationLeft}
 use Rattle.leaving_runs.proofs.Alone.Links.{event_plain, LinksLeft, refused_left, unseen, seen, sent_nodes, sent_stays, sent_unseen, sent_seen}
 use Rattle.leaving_runs.proofs.Alone.Links.{sent_refused}

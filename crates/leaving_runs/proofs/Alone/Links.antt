@@ -1,37 +1,18 @@
 -- What the links of one end make of a record, what is left of them makes of what is left of it.
-use Rattle.std.proofs.Common.{◌≡◌, ℕ, Bool, true, false, not, ◌==◌, cond, ◌⊎◌, inl, inr, Option, Some, None, Result, Ok, Err, List, []}
-use Rattle.std.proofs.Common.{◌∷◌, refl, sym}
-use Rattle.std.proofs.Common.{ap, ◌∙◌, subst, eqb-true, arith}
-use Rattle.std.proofs.lemmas.Bool.{eqb-false}
-use Rattle.dna_packet.specs.declared.ack_word.AckWord.{AckWord}
-use Rattle.dna_packet.specs.Nsp.{NspValue, DataSegment, LinkService, DataAck, OtherDataAck, ConnectAck, NoOperation, ConnectInitiate, ConnectConfirm}
-use Rattle.dna_packet.specs.Nsp.{DisconnectInitiate, DisconnectConfirm}
-use Rattle.dna_station.specs.declared.link_refusal.LinkRefusal.{LinkRefusal}
-use Rattle.dna_station.specs.declared.refusal.StepRefusal.{StepRefusal}
-use Rattle.dna_links.specs.declared.queue.Queues.{Queues}
-use Rattle.dna_links.specs.declared.port.LinkTest.TheVariants.{ActedOn}
-use Rattle.dna_links.specs.Links.{LinkOf, Carried, check, with_link}
-use Rattle.dna_links.specs.LinkBook.{after, by_row}
-use Rattle.dna_links.specs.Table.{Effect, TakeSegment, TakeAcks, acted_row}
-use Rattle.dna_links.specs.User.{LinkEventValue}
+use Rattle.leaving_runs.proofs.Prelude.{◌≡◌, ℕ, Bool, true, false, not, ◌==◌, cond, ◌⊎◌, inl, inr, Option, Some, None, Result, Ok, Err, List, []}
+use Rattle.leaving_runs.proofs.Prelude.{◌∷◌, refl, sym, ap, ◌∙◌, subst, eqb-true, arith, eqb-false, AckWord, NspValue, DataSegment, LinkService}
+use Rattle.leaving_runs.proofs.Prelude.{DataAck, OtherDataAck, ConnectAck, NoOperation, ConnectInitiate, ConnectConfirm, DisconnectInitiate}
+use Rattle.leaving_runs.proofs.Prelude.{DisconnectConfirm, LinkRefusal, StepRefusal, Queues, ActedOn, LinkOf, Carried, check, with_link, after}
+use Rattle.leaving_runs.proofs.Prelude.{by_row, TakeSegment, TakeAcks, acted_row, LinkEventValue, of_anyone, WireSegments, wire_segments, WireLinks}
+use Rattle.leaving_runs.proofs.Prelude.{wire_links_sent, wire_links_arrived, wrong_words, wrong_acks, wrong_message, of_no_link, LinkRules}
+use Rattle.leaving_runs.proofs.Prelude.{LinkRecord, OfUser, Sends, Keeps, OfNoLink, next_links, links_then, LeftOut, source_of, destination_of}
+use Rattle.leaving_runs.proofs.Prelude.{sent_out, kept_out, message_out, is_out, Judged, links_left, renumbered, judged_then, AreFit, EventBinds}
+use Rattle.leaving_runs.proofs.Prelude.{MessageBinds, IsRight, other_out, IfMade, SameNodes, made_alike, refused_alike, stays_fit, NamesOwn}
+use Rattle.leaving_runs.proofs.Prelude.{NamesFar, Tests, its_port, port_is, look_holds, found_is, seen_left, next_nodes, MessageTold, sent_told}
+use Rattle.leaving_runs.proofs.Prelude.{told_stays}
+use Rattle.dna_links.specs.Table.{Effect}
 use Rattle.dna_links.specs.User as user
 use Rattle.dna_links.specs.Sending.{Sent}
-use Rattle.dna_links.specs.Arriving.{of_anyone}
-use Rattle.dna_links.specs.WireSegments.{WireSegments, wire_segments}
-use Rattle.dna_links.specs.WireLinks.{WireLinks, wire_links_sent, wire_links_arrived}
-use Rattle.dna_node.specs.Accusing.{wrong_words, wrong_acks, wrong_message}
-use Rattle.dna_node.specs.WireLayers.{of_no_link}
-use Rattle.dna_leaving.specs.Records.{LinkRules, LinkRecord, OfUser, Sends, Keeps, OfNoLink, next_links, links_then}
-use Rattle.dna_leaving.specs.LeftOut.{LeftOut, source_of, destination_of, sent_out, kept_out, message_out, is_out}
-use Rattle.dna_leaving.specs.Left.{Judged, links_left, renumbered, judged_then}
-use Rattle.dna_leaving.specs.Right.{AreFit, EventBinds, MessageBinds, IsRight}
-use Rattle.dna_leaving.specs.Worlds.{other_out}
-use Rattle.dna_leaving.proofs.Answered.{IfMade}
-use Rattle.dna_leaving.proofs.After.{SameNodes}
-use Rattle.dna_leaving.proofs.Lists.{made_alike, refused_alike, stays_fit}
-use Rattle.dna_leaving.proofs.LookUps.{NamesOwn, NamesFar, Tests, its_port, port_is, look_holds, found_is, seen_left}
-use Rattle.dna_leaving.proofs.Steps.{next_nodes}
-use Rattle.dna_leaving.proofs.Units.{MessageTold, sent_told, told_stays}
 use Rattle.leaving_runs.proofs.Users.{goes_between}
 use Rattle.leaving_runs.proofs.Alone.Packets.{stands_for, carries, both_named}
 

@@ -1,31 +1,15 @@
 -- What becomes of a packet that comes: it can be read on; and where its message is left out at its sender, and judged where it comes, links meet of
 -- it no more than that it ends a link.
-use Rattle.std.proofs.Common.{◌≡◌, ℕ, suc, Bool, true, false, ◌==◌, cond, eqb, Option, Some, None, Result, Ok, Err, List}
-use Rattle.std.proofs.Common.{refl, sym, ap, ap₂, ◌∙◌, subst, eqb-true}
-use Rattle.std.proofs.lemmas.Bool.{eq-eqb}
-use Rattle.wire_base.specs.declared.side.Side.{Side}
-use Rattle.wire_base.specs.Side.{other_side}
-use Rattle.ddcmp_msg.specs.Message.{IsBytes}
-use Rattle.dna_packet.specs.declared.fault.NspFault.{NspFault}
-use Rattle.dna_packet.specs.Packet.{IsPacket, Data, packet_bytes}
-use Rattle.dna_packet.specs.ReadingPacket.{packet_at}
-use Rattle.dna_packet.specs.Nsp.{IsNsp, NspValue, DataSegment, LinkService, DataAck, OtherDataAck, ConnectAck, NoOperation, ConnectInitiate}
-use Rattle.dna_packet.specs.Nsp.{ConnectConfirm, DisconnectInitiate, DisconnectConfirm, nsp_bytes}
-use Rattle.dna_packet.specs.ReadingNsp.{nsp_at}
-use Rattle.dna_packet.proofs.NspAgain.{nsp_again}
-use Rattle.dna_packet.proofs.NspTakes.{nsp_takes}
-use Rattle.dna_packet.proofs.PacketLemmas.{packet_again, packet_takes}
-use Rattle.dna_station.specs.declared.refusal.StepRefusal.{StepRefusal}
-use Rattle.dna_links.specs.Links.{Carried}
-use Rattle.dna_node.specs.Content.{content, content_of, message_in, is_returned}
-use Rattle.leaving_out.specs.declared.leaving.Leaving.{Leaving}
-use Rattle.leaving_out.specs.declared.packet_left.Route.{Route}
-use Rattle.leaving_out.specs.Addresses.{at_receiver, head_of, is_left}
+use Rattle.leaving_runs.proofs.Prelude.{◌≡◌, ℕ, suc, Bool, true, false, ◌==◌, cond, eqb, Option, Some, None, Result, Ok, Err, List, refl, sym, ap}
+use Rattle.leaving_runs.proofs.Prelude.{ap₂, ◌∙◌, subst, eqb-true, eq-eqb, Side, other_side, IsBytes, NspFault, IsPacket, packet_bytes, packet_at}
+use Rattle.leaving_runs.proofs.Prelude.{IsNsp, NspValue, DataSegment, LinkService, DataAck, OtherDataAck, ConnectAck, NoOperation, ConnectInitiate}
+use Rattle.leaving_runs.proofs.Prelude.{ConnectConfirm, DisconnectInitiate, DisconnectConfirm, nsp_bytes, nsp_at, nsp_again, nsp_takes}
+use Rattle.leaving_runs.proofs.Prelude.{packet_again, packet_takes, StepRefusal, Carried, content, content_of, message_in, is_returned, Leaving}
+use Rattle.leaving_runs.proofs.Prelude.{Route, at_receiver, head_of, is_left, link_left, names_both, packet_left, packet_with, route_of, unmet}
+use Rattle.leaving_runs.proofs.Prelude.{LeftOut, source_of, destination_of, sent_out, kept_out, other_out, leaves_at}
+use Rattle.dna_packet.specs.Packet.{Data}
 use Rattle.leaving_out.specs.Messages as program
-use Rattle.leaving_out.specs.Packets.{link_left, message_left, names_both, packet_left, packet_with, route_of, unmet}
-use Rattle.dna_leaving.specs.LeftOut.{LeftOut, source_of, destination_of, sent_out, kept_out}
-use Rattle.dna_leaving.specs.Worlds.{other_out}
-use Rattle.leaving_runs.specs.Tied.{leaves_at}
+use Rattle.leaving_out.specs.Packets.{message_left}
 use Rattle.leaving_runs.proofs.Packets.{sent_same, kept_same, unmet_none, packet_is}
 
 -- what links meet of it

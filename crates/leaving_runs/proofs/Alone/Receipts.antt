@@ -1,22 +1,10 @@
 -- What one end makes of a unit that comes, what is left of it makes of what is left of that.
-use Rattle.std.proofs.Common.{◌≡◌, ℕ, ◌+◌, Bool, true, false, cond, nat_lt, None, List}
-use Rattle.std.proofs.Common.{refl, sym, ap, ◌∙◌, subst}
-use Rattle.std.specs.Prelude.{IfSome}
-use Rattle.ddcmp_msg.specs.Message.{IsBytes}
-use Rattle.ddcmp_msg.specs.Reading.{ReadingValue, reading}
+use Rattle.leaving_runs.proofs.Prelude.{◌≡◌, ℕ, ◌+◌, Bool, true, false, cond, nat_lt, None, List, refl, sym, ap, ◌∙◌, subst, IfSome, IsBytes}
+use Rattle.leaving_runs.proofs.Prelude.{ReadingValue, reading, Fate, HintOrder, Queues, WireLayers, WireLayersNode, StepAlone, Refuses, sound_comes}
+use Rattle.leaving_runs.proofs.Prelude.{comes_alone, receives_alone, ThisEnd, layers_end_by, message_in_unit, message_within, packet_of}
+use Rattle.leaving_runs.proofs.Prelude.{MessageBinds, bytes_left, bytes_left_by, Leaves, fate_left, met_if}
 use Rattle.ddcmp_msg.specs.Reading as read_as
-use Rattle.capture_record.specs.declared.fate.Fate.{Fate}
 use Rattle.capture_record.specs.declared.fate.Fate.TheVariants as fates
-use Rattle.dna_station.specs.declared.refusal.StepRefusal.TheVariants.{HintOrder}
-use Rattle.dna_links.specs.declared.queue.Queues.{Queues}
-use Rattle.dna_node.specs.WireLayers.{WireLayers, WireLayersNode}
-use Rattle.dna_node.specs.Alone.{StepAlone, Refuses, sound_comes, comes_alone}
-use Rattle.dna_node.specs.Alone.{receives_alone, ThisEnd, layers_end_by}
-use Rattle.leaving_out.specs.Messages.{message_in_unit, message_within, packet_of}
-use Rattle.dna_leaving.specs.Right.{MessageBinds}
-use Rattle.leaving_runs.specs.Stations.{bytes_left, bytes_left_by}
-use Rattle.leaving_runs.specs.Nodes.{Leaves}
-use Rattle.leaving_runs.specs.Records.{fate_left, met_if}
 use Rattle.leaving_runs.proofs.Bytes.{still_read}
 use Rattle.leaving_runs.proofs.Alone.Units.{IsJudgedComing, ComesFit, Layered, StepLeft, meets_left, header_left, data_left}
 use Rattle.leaving_runs.proofs.Alone.Kept.{sound_left}

@@ -1,30 +1,13 @@
 -- What is left of the records of one end that pass alone passes alone.
-use Rattle.std.proofs.Common.{◌≡◌, ℕ, ◌+◌, false, Option, Some, List, [], ◌∷◌, map, refl, sym}
-use Rattle.std.proofs.Common.{ap, ◌∙◌, subst}
-use Rattle.std.specs.Prelude.{IfSome}
-use Rattle.std.specs.List.{AllByRecursion}
-use Rattle.ddcmp_msg.specs.Message.{IsBytes}
-use Rattle.ddcmp_msg.specs.Reading.{ReadingValue, reading}
+use Rattle.leaving_runs.proofs.Prelude.{◌≡◌, ℕ, ◌+◌, false, Option, Some, List, [], ◌∷◌, map, refl, sym, ap, ◌∙◌, subst, IfSome, AllByRecursion}
+use Rattle.leaving_runs.proofs.Prelude.{IsBytes, ReadingValue, reading, Record, Sent, Received, Noise, User, Head, Queues, WireLayers}
+use Rattle.leaving_runs.proofs.Prelude.{WireLayersNode, new_wire_layers_node, StepAlone, Makes, Refuses, step_alone, sent_alone, EndingAlone}
+use Rattle.leaving_runs.proofs.Prelude.{Passed, goes_on, ends_from, layers_end_by, Accused, PassesBy, judged_alone_by, LinkRefusal, NspValue}
+use Rattle.leaving_runs.proofs.Prelude.{message_in_unit, message_within, packet_of, all_judged, LeftOut, source_of, destination_of, sent_out}
+use Rattle.leaving_runs.proofs.Prelude.{MessageBinds, bytes_left, Leaves, record_left, PacketsFit, RecordFits, IsJudged, of_event}
 use Rattle.ddcmp_msg.specs.Reading as read_as
-use Rattle.capture_record.specs.declared.record.Record.{Record}
-use Rattle.capture_record.specs.declared.record.Record.TheVariants.{Sent, Received, Noise, User}
-use Rattle.dna_station.specs.declared.head.Head.{Head}
-use Rattle.dna_links.specs.declared.queue.Queues.{Queues}
-use Rattle.dna_node.specs.WireLayers.{WireLayers, WireLayersNode, new_wire_layers_node}
-use Rattle.dna_node.specs.Alone.{StepAlone, Makes, Refuses, step_alone, sent_alone, EndingAlone, Passed, Refused, goes_on, ends_from, layers_end_by}
-use Rattle.dna_node.specs.Alone.{Accused, PassesBy, judged_alone_by}
-use Rattle.dna_station.specs.declared.link_refusal.LinkRefusal.{LinkRefusal}
+use Rattle.dna_node.specs.Alone.{Refused}
 use Rattle.dna_station.specs.declared.refusal.StepRefusal.TheVariants.{Links as OfLinks}
-use Rattle.dna_packet.specs.Nsp.{NspValue}
-use Rattle.leaving_out.specs.Messages.{message_in_unit, message_within, packet_of}
-use Rattle.dna_leaving.specs.Left.{all_judged}
-use Rattle.dna_leaving.specs.LeftOut.{LeftOut, source_of, destination_of, sent_out}
-use Rattle.dna_leaving.specs.Right.{MessageBinds}
-use Rattle.leaving_runs.specs.Stations.{bytes_left}
-use Rattle.leaving_runs.specs.Nodes.{Leaves}
-use Rattle.leaving_runs.specs.Records.{record_left}
-use Rattle.leaving_runs.specs.Fitting.{PacketsFit, RecordFits}
-use Rattle.leaving_runs.specs.Meets.{IsJudged, of_event}
 use Rattle.leaving_runs.proofs.Bytes.{still_read, within_data}
 use Rattle.leaving_runs.proofs.Alone.Layers.{LayersLeft}
 use Rattle.leaving_runs.proofs.Alone.Users.{user_left}

@@ -1,31 +1,12 @@
 -- What one end makes of what it sends, what is left of it makes of what is left of that.
-use Rattle.std.proofs.Common.{◌≡◌, ℕ, Bool, true, false, cond, Option, Some, None, Result, Ok, Err, List, refl, sym, ap, ◌∙◌, subst}
-use Rattle.ddcmp_msg.specs.Message.{MessageValue, Data, IsBytes}
-use Rattle.ddcmp_msg.specs.Reading.{reading}
+use Rattle.leaving_runs.proofs.Prelude.{◌≡◌, ℕ, Bool, true, false, cond, Option, Some, None, Result, Ok, Err, List, refl, sym, ap, ◌∙◌, subst}
+use Rattle.leaving_runs.proofs.Prelude.{MessageValue, Data, IsBytes, reading, StationRefusal, StepRefusal, LinkRefusal, Tag, SendPacket, change_of}
+use Rattle.leaving_runs.proofs.Prelude.{body_of, unless_refused, WireStation, wire_after_label, wire_tag, wire_sending_refusal, wire_after_sending}
+use Rattle.leaving_runs.proofs.Prelude.{gives_new, Queues, LinkTag, Carried, WireSegments, WireLinks, wire_links_sent, by_bytes_with, content}
+use Rattle.leaving_runs.proofs.Prelude.{WireLayers, LayersTag, of_no_link, first_tagged, with_tag, wire_sends_again, wire_sends_first}
+use Rattle.leaving_runs.proofs.Prelude.{wire_sends_on, source_of, destination_of, sent_out, with_body, Leaves, PacketsFit}
 use Rattle.ddcmp_msg.specs.Reading as read_as
-use Rattle.dna_station.specs.declared.refusal.StationRefusal.{StationRefusal}
-use Rattle.dna_station.specs.declared.refusal.StepRefusal.{StepRefusal}
-use Rattle.dna_station.specs.declared.link_refusal.LinkRefusal.{LinkRefusal}
-use Rattle.dna_station.specs.declared.tag.Tag.{Tag}
-use Rattle.dna_station.specs.Table.{SendPacket, change_of}
-use Rattle.dna_station.specs.Book.{body_of}
-use Rattle.dna_station.specs.Machine.{unless_refused}
-use Rattle.dna_station.specs.WireStation.{WireStation, wire_after_label}
-use Rattle.dna_station.specs.WireBook.{wire_tag, wire_sending_refusal, wire_after_sending, gives_new}
-use Rattle.dna_links.specs.declared.queue.Queues.{Queues}
-use Rattle.dna_links.specs.declared.tag.LinkTag.{LinkTag}
-use Rattle.dna_links.specs.Links.{Carried}
 use Rattle.dna_links.specs.Sending.{Sent}
-use Rattle.dna_links.specs.WireSegments.{WireSegments}
-use Rattle.dna_links.specs.WireLinks.{WireLinks, wire_links_sent}
-use Rattle.dna_node.specs.TagRules.{by_bytes_with}
-use Rattle.dna_node.specs.Content.{content}
-use Rattle.dna_node.specs.WireLayers.{WireLayers, LayersTag, of_no_link, first_tagged, with_tag}
-use Rattle.dna_node.specs.WireLayers.{wire_sends_again, wire_sends_first, wire_sends_on}
-use Rattle.dna_leaving.specs.LeftOut.{source_of, destination_of, sent_out}
-use Rattle.leaving_runs.specs.Stations.{with_body}
-use Rattle.leaving_runs.specs.Nodes.{Leaves}
-use Rattle.leaving_runs.specs.Fitting.{PacketsFit}
 use Rattle.leaving_runs.proofs.Bytes.{body_bytes}
 use Rattle.leaving_runs.proofs.Alone.Stations.{by_held, after_left, gives_left, sending_left, labels_left}
 use Rattle.leaving_runs.proofs.Alone.Layers.{IsLeft, Station, LayersLeft, SentLeft, unread, refused_by, packet_by}

@@ -1,31 +1,15 @@
 -- What the station of one end makes of what is left is what is left of what it makes, with any labels beside its packets.
-use Rattle.std.proofs.Common.{◌≡◌, ℕ, zero, suc, ◌+◌, ◌-◌, Bool, true, false, not, ◌&&◌, eqb, ltb, leb, cond, Option, Some, None, List, [], ◌∷◌}
-use Rattle.std.proofs.Common.{◌++◌, map, fold, length, drop, refl, sym, ap, ap₂, ◌∙◌, subst, option_map}
-use Rattle.std.specs.Prelude.{slice_get, slice_set}
-use Rattle.std.proofs.lemmas.List.{length-map, map-append, map-set, drop-map}
-use Rattle.std.proofs.lemmas.Option.{slice_get-map}
-use Rattle.std.proofs.lemmas.Slice.Eq.{bytes_eq-Decides}
-use Rattle.ddcmp_msg.specs.Message.{MessageValue, Data, Ack, Nak, Rep, Strt, Stack}
-use Rattle.ddcmp_msg.specs.declared.nak_reason.NakReason.{NakReason}
-use Rattle.ddcmp_msg.specs.declared.nak_reason.NakReason.TheVariants.{RepResponse, NoBuffer}
-use Rattle.dna_station.specs.NakCauses.{Causes, with_cause}
-use Rattle.dna_station.specs.declared.state.State.{State}
-use Rattle.dna_station.specs.declared.state.State.TheVariants.{Istrt, Astrt, Running}
-use Rattle.dna_station.specs.declared.state.StationEvent.{StationEvent}
-use Rattle.dna_station.specs.declared.state.StationEvent.TheVariants.{Start, Halt}
-use Rattle.dna_station.specs.declared.refusal.StationRefusal.TheVariants.{WrongState, WrongNumber}
-use Rattle.dna_station.specs.declared.tag.Tag.{Tag}
-use Rattle.dna_station.specs.PeriodRule.{of_any_period}
-use Rattle.dna_station.specs.Table.{WINDOW, Check, RespIsLast, CauseIsOpen, SomeOutstanding, NumIsHighest, NumIsNext, RoomIfNew, AsFirstGiven}
-use Rattle.dna_station.specs.Table.{checks, Effect, GoTo, TakePartner, Respond, SetBack, TakePacket, AnswerRep, Row, row}
-use Rattle.dna_station.specs.Station.{wire}
-use Rattle.dna_station.specs.Book.{num_of, resp_of, Sound, failed, has_packet, keep_refusal}
-use Rattle.dna_station.specs.WireStation.{HeldPacket, StationVariables, WireStation, wire_after_event, with_new, labelled, with_label}
-use Rattle.dna_station.specs.WireStation.{wire_after_label}
-use Rattle.dna_station.specs.WireBook.{wire_is_new, is_held_packet, wire_passes, acknowledges, wire_acknowledged_by, wire_is_next}
-use Rattle.dna_station.specs.WireBook.{with_next, wire_does, wire_book, wire_sending_refusal, wire_after_sending, wire_arrival_refusal}
-use Rattle.dna_station.specs.WireBook.{wire_after_arrival, gives_new}
-use Rattle.leaving_runs.specs.Stations.{with_body}
+use Rattle.leaving_runs.proofs.Prelude.{◌≡◌, ℕ, zero, suc, ◌+◌, ◌-◌, Bool, true, false, not, ◌&&◌, eqb, ltb, leb, cond, Option, Some, None, List}
+use Rattle.leaving_runs.proofs.Prelude.{[], ◌∷◌, ◌++◌, map, fold, length, drop, refl, sym, ap, ap₂, ◌∙◌, subst, option_map, slice_get, slice_set}
+use Rattle.leaving_runs.proofs.Prelude.{length-map, map-append, map-set, drop-map, slice_get-map, bytes_eq-Decides, MessageValue, Data, Ack, Nak}
+use Rattle.leaving_runs.proofs.Prelude.{Rep, Strt, Stack, NakReason, RepResponse, NoBuffer, Causes, with_cause, State, Istrt, Astrt, Running}
+use Rattle.leaving_runs.proofs.Prelude.{StationEvent, Start, Halt, WrongState, WrongNumber, Tag, of_any_period, WINDOW, Check, RespIsLast}
+use Rattle.leaving_runs.proofs.Prelude.{CauseIsOpen, SomeOutstanding, NumIsHighest, NumIsNext, RoomIfNew, AsFirstGiven, checks, Effect, GoTo}
+use Rattle.leaving_runs.proofs.Prelude.{TakePartner, Respond, SetBack, TakePacket, AnswerRep, Row, row, wire, num_of, resp_of, Sound, failed}
+use Rattle.leaving_runs.proofs.Prelude.{has_packet, keep_refusal, HeldPacket, StationVariables, WireStation, wire_after_event, with_new, labelled}
+use Rattle.leaving_runs.proofs.Prelude.{with_label, wire_after_label, wire_is_new, is_held_packet, wire_passes, acknowledges, wire_acknowledged_by}
+use Rattle.leaving_runs.proofs.Prelude.{wire_is_next, with_next, wire_does, wire_book, wire_sending_refusal, wire_after_sending}
+use Rattle.leaving_runs.proofs.Prelude.{wire_arrival_refusal, wire_after_arrival, gives_new, with_body}
 use Rattle.leaving_runs.proofs.Stations.{first_passed, row_same}
 
 set_itself : {X : Type 0} (xs : List X) (n : ℕ) (x : X) → slice_get xs n ≡ Some x → slice_set xs n x ≡ xs

@@ -1,40 +1,16 @@
 -- What is asked of a unit that comes, and what is made of damage and of noise: at what is left as before.
-use Rattle.std.proofs.Common.{◌≡◌, ℕ, Bool, true, false, cond, leb, Option, Some, None, Result, Ok, Err, List, []}
-use Rattle.std.proofs.Common.{◌⊎◌, inl, inr, refl, sym, ap, ◌∙◌, subst, length}
-use Rattle.std.proofs.lemmas.Option.{same_Some}
-use Rattle.std.specs.Prelude.{IfSome}
-use Rattle.ddcmp_msg.specs.Message.{MessageValue, Data, Ack, Nak, Rep, Strt, Stack, IsBytes}
-use Rattle.ddcmp_msg.specs.declared.nak_reason.NakReason.TheVariants.{HeaderCheck, DataCheck}
-use Rattle.ddcmp_msg.specs.Reading.{ReadingValue, reading}
+use Rattle.leaving_runs.proofs.Prelude.{◌≡◌, ℕ, Bool, true, false, cond, leb, Option, Some, None, Result, Ok, Err, List, [], ◌⊎◌, inl, inr, refl}
+use Rattle.leaving_runs.proofs.Prelude.{sym, ap, ◌∙◌, subst, length, same_Some, IfSome, MessageValue, Data, Ack, Nak, Rep, Strt, Stack, IsBytes}
+use Rattle.leaving_runs.proofs.Prelude.{HeaderCheck, DataCheck, ReadingValue, reading, Fate, NspValue, State, Halted, Istrt, Astrt, Running}
+use Rattle.leaving_runs.proofs.Prelude.{WrongResponse, StepRefusal, SendPacket, change_of, counts_damage, HeaderBad, DataBad, body_of, damage}
+use Rattle.leaving_runs.proofs.Prelude.{noise_comes, HeldPacket, WireStation, acknowledges, wire_book, wire_after_arrival, Queues, LinkTag, Carried}
+use Rattle.leaving_runs.proofs.Prelude.{content, WireLayers, LayersTag, WireLayersNode, wrong_response_in, wrong_response, wrong_content, or_else}
+use Rattle.leaving_runs.proofs.Prelude.{wrong_unit, StepAlone, Makes, Refuses, sends, meets, layers_end_by, message_in_unit, LeftOut, source_of}
+use Rattle.leaving_runs.proofs.Prelude.{destination_of, sent_out, kept_out, other_out, with_body, Leaves, PacketsFit}
 use Rattle.ddcmp_msg.specs.Reading as read_as
-use Rattle.capture_record.specs.declared.fate.Fate.{Fate}
 use Rattle.capture_record.specs.declared.fate.Fate.TheVariants as fates
-use Rattle.dna_packet.specs.Nsp.{NspValue}
-use Rattle.dna_station.specs.declared.state.State.{State}
-use Rattle.dna_station.specs.declared.state.State.TheVariants.{Halted, Istrt, Astrt, Running}
-use Rattle.dna_station.specs.declared.refusal.StationRefusal.TheVariants.{WrongResponse}
-use Rattle.dna_station.specs.declared.refusal.StepRefusal.{StepRefusal}
 use Rattle.dna_station.specs.declared.refusal.StepRefusal.TheVariants.{Station as OfStation}
-use Rattle.dna_station.specs.Table.{SendPacket, change_of, counts_damage}
-use Rattle.dna_station.specs.Book.{HeaderBad, DataBad, body_of}
-use Rattle.dna_station.specs.Line.{damage}
-use Rattle.dna_station.specs.Machine.{noise_comes}
-use Rattle.dna_station.specs.WireStation.{HeldPacket, WireStation}
-use Rattle.dna_station.specs.WireBook.{acknowledges, wire_book, wire_after_arrival}
-use Rattle.dna_links.specs.declared.queue.Queues.{Queues}
-use Rattle.dna_links.specs.declared.tag.LinkTag.{LinkTag}
-use Rattle.dna_links.specs.Links.{Carried}
-use Rattle.dna_node.specs.Content.{content}
-use Rattle.dna_node.specs.WireLayers.{WireLayers, LayersTag, WireLayersNode}
-use Rattle.dna_node.specs.Accusing.{wrong_response_in, wrong_response, wrong_content, or_else, wrong_unit}
-use Rattle.dna_node.specs.Alone.{StepAlone, Makes, Refuses, does, sends, meets}
-use Rattle.dna_node.specs.Alone.{layers_end_by}
-use Rattle.leaving_out.specs.Messages.{message_in_unit}
-use Rattle.dna_leaving.specs.LeftOut.{LeftOut, source_of, destination_of, sent_out, kept_out}
-use Rattle.dna_leaving.specs.Worlds.{other_out}
-use Rattle.leaving_runs.specs.Stations.{with_body}
-use Rattle.leaving_runs.specs.Nodes.{Leaves}
-use Rattle.leaving_runs.specs.Fitting.{PacketsFit}
+use Rattle.dna_node.specs.Alone.{does}
 use Rattle.leaving_runs.proofs.Bytes.{body_bytes}
 use Rattle.leaving_runs.proofs.Alone.Packets.{stands_for, carries}
 use Rattle.leaving_runs.proofs.Alone.Stations.{by_held, as_many, counted_left}

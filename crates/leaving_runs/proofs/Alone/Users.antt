@@ -1,31 +1,11 @@
 -- What one end makes of what its user does, what is left of it makes of what is left of that.
-use Rattle.std.proofs.Common.{◌≡◌, ℕ, Bool, true, false, cond, Option, Result, Ok, [], refl, sym, ap, ◌∙◌, subst}
-use Rattle.capture_record.specs.Range.{IsRecord}
-use Rattle.capture_record.specs.declared.event.Event.{Event}
+use Rattle.leaving_runs.proofs.Prelude.{◌≡◌, ℕ, Bool, true, false, cond, Option, Result, Ok, [], refl, sym, ap, ◌∙◌, subst, IsRecord, Event, User}
+use Rattle.leaving_runs.proofs.Prelude.{Start, Halt, StepRefusal, user_refusal, unless_refused, WireStation, wire_after_event, Queues, LinkTag}
+use Rattle.leaving_runs.proofs.Prelude.{Carried, LinkEventValue, Open, Accept, Reject, In, Up, Close, Boot, Abort, wire_links_user, by_bytes_with}
+use Rattle.leaving_runs.proofs.Prelude.{content, link_event, WireLayers, with_wire_station, with_wire_links, wire_layers_user, OfNoLink, event_out}
+use Rattle.leaving_runs.proofs.Prelude.{EventBinds, Leaves, event_left, PacketsFit, EventFits, IsJudged, of_content, of_event}
 use Rattle.capture_record.specs.declared.event.Event.TheVariants as events
-use Rattle.capture_record.specs.declared.record.Record.TheVariants.{User}
-use Rattle.dna_station.specs.declared.state.StationEvent.TheVariants.{Start, Halt}
-use Rattle.dna_station.specs.declared.refusal.StepRefusal.{StepRefusal}
-use Rattle.dna_station.specs.Table.{user_refusal}
-use Rattle.dna_station.specs.Machine.{unless_refused}
-use Rattle.dna_station.specs.WireStation.{WireStation, wire_after_event}
-use Rattle.dna_links.specs.declared.queue.Queues.{Queues}
-use Rattle.dna_links.specs.declared.tag.LinkTag.{LinkTag}
-use Rattle.dna_links.specs.Links.{Carried}
-use Rattle.dna_links.specs.User.{LinkEventValue, Open, Accept, Reject, In, Up, Close, Boot, Abort}
 use Rattle.dna_links.specs.User as user
-use Rattle.dna_links.specs.WireLinks.{wire_links_user}
-use Rattle.dna_node.specs.TagRules.{by_bytes_with}
-use Rattle.dna_node.specs.Content.{content, link_event}
-use Rattle.dna_node.specs.WireLayers.{WireLayers, with_wire_station, with_wire_links}
-use Rattle.dna_node.specs.WireLayers.{wire_layers_user}
-use Rattle.dna_leaving.specs.Records.{OfNoLink}
-use Rattle.dna_leaving.specs.LeftOut.{event_out}
-use Rattle.dna_leaving.specs.Right.{EventBinds}
-use Rattle.leaving_runs.specs.Nodes.{Leaves}
-use Rattle.leaving_runs.specs.Records.{event_left}
-use Rattle.leaving_runs.specs.Fitting.{PacketsFit, EventFits}
-use Rattle.leaving_runs.specs.Meets.{IsJudged, of_content, of_event}
 use Rattle.leaving_runs.proofs.Alone.Stations.{by_held}
 use Rattle.leaving_runs.proofs.Alone.Stations.{event_left as station_event_left}
 use Rattle.leaving_runs.proofs.Alone.Layers.{Station, LayersLeft, ResultLeft, station_left, events_left, composes_left}

@@ -1,35 +1,15 @@
 -- What the program makes of the capture of one end that passes alone passes alone; and whole groups are alike.
-use Rattle.std.proofs.Common.{◌≡◌, ℕ, Bool, true, false, ◌==◌, cond, Option, Some, None, Result, Ok, Err, List, [], ◌∷◌}
-use Rattle.std.proofs.Common.{refl, sym, ap, ◌∙◌, subst, arith}
-use Rattle.std.specs.Prelude.{IfSome}
-use Rattle.std.specs.List.{AllByRecursion}
-use Rattle.std.proofs.lemmas.Bool.{eq-eqb, ne_eqb}
-use Rattle.wire_base.specs.declared.side.Side.TheVariants.{A, B}
-use Rattle.capture_record.specs.Range.{IsRecord}
+use Rattle.leaving_runs.proofs.Prelude.{◌≡◌, ℕ, Bool, true, false, ◌==◌, cond, Option, Some, None, Result, Ok, Err, List, [], ◌∷◌, refl, sym, ap}
+use Rattle.leaving_runs.proofs.Prelude.{◌∙◌, subst, arith, IfSome, AllByRecursion, eq-eqb, ne_eqb, A, B, IsRecord, Record, Sent, Received, Noise}
+use Rattle.leaving_runs.proofs.Prelude.{User, NspValue, ConnectInitiate, ConnectConfirm, Head, Queues, LinkRefusal, StepRefusal, Carried, content}
+use Rattle.leaving_runs.proofs.Prelude.{WireLayersNode, Accused, Passed, PassesBy, Refuses, judged_alone_by, layers_end_by, step_alone, Leaving}
+use Rattle.leaving_runs.proofs.Prelude.{is_left, own, about_at_receiver, about_at_sender, bound, confirmed, message_in_packet, message_in_unit}
+use Rattle.leaving_runs.proofs.Prelude.{records_left, source_of, destination_of, sent_out, MessageBinds, Leaves, IsJudged, of_content, leaves_at}
+use Rattle.leaving_runs.proofs.Prelude.{KnowsHead, IsAlike, RecordAlike, AreAlike, seen_from_there, RecordAlikeAlone, AreAlikeAlone, NamesSender}
+use Rattle.leaving_runs.proofs.Prelude.{ComesFromLink, IsJudgedAlone}
 use Rattle.capture_record.specs.declared.event.Event.TheVariants as events
-use Rattle.capture_record.specs.declared.record.Record.{Record}
-use Rattle.capture_record.specs.declared.record.Record.TheVariants.{Sent, Received, Noise, User}
-use Rattle.dna_packet.specs.Nsp.{NspValue, ConnectInitiate, ConnectConfirm}
-use Rattle.dna_station.specs.declared.head.Head.{Head}
-use Rattle.dna_links.specs.declared.queue.Queues.{Queues}
-use Rattle.dna_station.specs.declared.link_refusal.LinkRefusal.{LinkRefusal}
-use Rattle.dna_station.specs.declared.refusal.StepRefusal.{StepRefusal}
 use Rattle.dna_station.specs.declared.refusal.StepRefusal.TheVariants.{Links as OfLinks}
-use Rattle.dna_links.specs.Links.{Carried}
-use Rattle.dna_node.specs.Content.{content}
-use Rattle.dna_node.specs.WireLayers.{WireLayersNode}
-use Rattle.dna_node.specs.Alone.{Accused, Passed, PassesBy, Refuses, judged_alone_by, layers_end_by, step_alone}
-use Rattle.leaving_out.specs.declared.leaving.Leaving.{Leaving}
-use Rattle.leaving_out.specs.Addresses.{is_left, own}
-use Rattle.leaving_out.specs.About.{about_at_receiver, about_at_sender, bound, confirmed}
-use Rattle.leaving_out.specs.Messages.{message_in_packet, message_in_unit}
-use Rattle.leaving_out.specs.Records.{record_left as made_of, records_left}
-use Rattle.dna_leaving.specs.LeftOut.{source_of, destination_of, sent_out}
-use Rattle.dna_leaving.specs.Right.{MessageBinds}
-use Rattle.leaving_runs.specs.Nodes.{Leaves}
-use Rattle.leaving_runs.specs.Meets.{IsJudged, of_content}
-use Rattle.leaving_runs.specs.Tied.{leaves_at, KnowsHead, IsAlike, RecordAlike, AreAlike}
-use Rattle.leaving_runs.specs.OneEnd.{seen_from_there, RecordAlikeAlone, AreAlikeAlone, NamesSender, ComesFromLink, IsJudgedAlone}
+use Rattle.leaving_out.specs.Records.{record_left as made_of}
 use Rattle.leaving_runs.proofs.Bytes.{content_message}
 use Rattle.leaving_runs.proofs.Packets.{packets_fit, sent_same, kept_same}
 use Rattle.leaving_runs.proofs.Tied.{one_same, records_same, all_fit}

@@ -1,6 +1,6 @@
 -- One side of the judge beside the half of a run that it stands for, and what became of one record there.
 use Rattle.std.specs.Prelude.{◌≡◌, ◌+◌, ◌≤◌, Bool, true, false}
-use Rattle.two_nodes.specs.Nodes.{Outcome, advance}
+use Rattle.two_nodes.specs.Nodes.{advance}
 use Rattle.two_nodes.specs.Nodes as any
 use Rattle.capture_record.specs.declared.record.Record.{Record}
 use Rattle.capture_record.specs.declared.entry.Entry.{Entry}

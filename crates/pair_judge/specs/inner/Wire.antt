@@ -1,5 +1,5 @@
 -- The nodes that the judge runs: wire nodes, with or without their links, beside the kind of node that it takes the ends for.
-use Rattle.std.specs.Prelude.{◌≡◌, ℕ, Bool, List, Result}
+use Rattle.std.specs.Prelude.{◌≡◌, ℕ, List, Result}
 use Rattle.two_nodes.specs.Nodes.{Answer, Half, Nodes, World}
 use Rattle.ddcmp_msg.specs.Reading.{ReadingValue}
 use Rattle.capture_record.specs.declared.fate.Fate.{Fate}

@@ -21,7 +21,8 @@ use wire_base::Side;
 
 impl JudgedEnds {
     /// The side of the refused record, and the check that the record does not pass, with what is seen there and what is allowed: over these
-    /// layers, as was judged. The check is one of the reason of the verdict. `None` where the pair is accepted, and where none is named. Takes no memory.
+    /// layers, as was judged. The check is one of the reason of the verdict. `None` where the pair is accepted, and where none is named. Takes no
+    /// memory.
     pub fn failed(&self, layers: Layers) -> Option<(Side, FailedCheck)>
         ensures { spec.IsFailedIn (queues_judged layers) self.now result }
     {

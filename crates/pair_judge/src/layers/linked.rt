@@ -18,8 +18,8 @@ use dna_node::{
 use dna_station::{StepRefusal, captures_deliver_in_order};
 use nsp_link::LinkEvent;
 
-/// The links of each side, on both layers, whose NSP has queues or has none (`QUEUES`). The station acts on what comes of its period, or of any, by its
-/// bytes (`OF_PERIOD`).
+/// The links of each side, on both layers, whose NSP has queues or has none (`QUEUES`). The station acts on what comes of its period, or of any, by
+/// its bytes (`OF_PERIOD`).
 pub struct LinksOnTop<const OF_PERIOD: bool, const QUEUES: u8>;
 
 impl<const OF_PERIOD: bool, const QUEUES: u8> Top for LinksOnTop<OF_PERIOD, QUEUES> {

@@ -107,8 +107,8 @@ impl SideLayers {
 
     /// A packet was composed that is never sent: it is read and goes to the links as if it were first sent, and is nothing to the station.
     ///
-    /// `Refused`, in this order: `BadPacket`, `BadNsp`; as the links refuse. Then both layers are as they were. `OutOfMemory`: memory for the piece of
-    /// a message was refused.
+    /// `Refused`, in this order: `BadPacket`, `BadNsp`; as the links refuse. Then both layers are as they were. `OutOfMemory`: memory for the piece
+    /// of a message was refused.
     pub fn composed<const QUEUES: u8>(&mut self, packet: &[u8]) -> Result<(), StepFault>
         ensures ok { OnOk result ((layers_run_by (queues_of QUEUES)).user self.old (events.Composed packet.now) ≡ Ok self.new) }
         ensures refused { IfErr result (IfRefused (λ refusal.
@@ -131,8 +131,9 @@ impl SideLayers {
     fn send<const QUEUES: u8>(&mut self, carried: Carried) -> Result<LinkTag, StepFault>
         ensures ok { IfOk result (λ link. (before : WireLayers) (after : WireStation LinkTag × Tag) → before.links ≡ self.old.links →
             wire_sends_first (judged_by (queues_of QUEUES)) before after (lent_content carried.entry) ≡ Ok (first_tagged after self.new.links link)) }
-        ensures refused { IfErr result (IfRefused (λ refusal. (before : WireLayers) (after : WireStation LinkTag × Tag) →
-            before.links ≡ self.old.links → wire_sends_first (judged_by (queues_of QUEUES)) before after (lent_content carried.entry) ≡ Err refusal)) }
+        ensures refused { IfErr result (IfRefused (λ refusal.
+            (before : WireLayers) (after : WireStation LinkTag × Tag) → before.links ≡ self.old.links →
+            wire_sends_first (judged_by (queues_of QUEUES)) before after (lent_content carried.entry) ≡ Err refusal)) }
         ensures station { self.new.station ≡ self.old.station }
         ensures err { OnErr result (self.new ≡ self.old) }
     {

@@ -49,7 +49,8 @@ segments again, unchanged.",
   data acknowledgement uses up a segment number; the begin bit is missing; the
   end bit is missing; each piece has both bits; an empty piece follows a full
   last piece; a message that is sent again is cut elsewhere; a segment that is
-  sent again has different data
+  sent again has different data; an acknowledgement word before SEGNUM lacks
+  bit 15 and is read as SEGNUM
 - node, not a bug: a restart empties a queue, and a segment in it is lost
   before its first sending (an `x` line in format 3)",
     first: "\

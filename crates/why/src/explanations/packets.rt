@@ -48,8 +48,8 @@ any packet between the two.",
   source and destination are exchanged
 - node, not a bug: a router passes on a packet of a third node",
     first: "\
-compare the addresses in `ddcap why` with both heads. If the line joins
-routers, use `check --line`.",
+compare the addresses in `ddcap why` with both heads. If the line leads
+to a router, use `check --line`.",
     sentence: "A packet of a link goes from one to the other of the two nodes that the head of the capture names",
     page: "docs/REASONS.md#16-wrongnode",
     table: "docs/LINKS.md#what-may-be-sent",
@@ -103,7 +103,8 @@ the same, once the link exists.",
 - node: the addresses of a CC are exchanged; the addresses of a segment are
   exchanged; data is sent before the CC has arrived; a connect acknowledgement
   names the sender's own address; data is sent after a DI has arrived; a DI is
-  repeated after the DC has arrived; a CI is sent though no user opened a link
+  repeated after the DC has arrived; a CI is sent though no user opened a link;
+  a repeated CI is shown to the user as a new call
 - node, not a bug: a DI waits in a queue until the DC has arrived (see check
   --queued)",
     first: "\

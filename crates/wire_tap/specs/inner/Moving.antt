@@ -126,7 +126,8 @@ pub record IsLineOver (format : Format) (text : Option (List ℕ)) (old : Held) 
   pub b : IsOver B wire.items (bytes_of B wire.items) (head_b format wire) (units_of A wire) old.b line.now.b line.b.units
 
 -- the units of a side that have no record and don't wait
-abbrev pub others_at : {format : Format} → {text : Option (List ℕ)} → {old : Held} → {line : LineState} → Side → IsLineOver format text old line → List (List ℕ)
+abbrev pub others_at : {format : Format} → {text : Option (List ℕ)} → {old : Held} → {line : LineState} → Side → IsLineOver format text old line →
+    List (List ℕ)
 others_at A over = over.a.others
 others_at B over = over.b.others
 

@@ -58,7 +58,8 @@ pub record MovesOn (units other : List (List ℕ)) (old new : Waiting) : Type 0 
   pub passed : (all : List (List ℕ)) → HavePassed all old.units → HavePassed (all ++ other) new.units
   pub count : other_count new.units ≡ other_count old.units + length other
   pub rise : HintsRise old.units.gone new.units.gone records
-  pub come : (side : Side) (pieces : List Piece) (sent : ℕ) → HoldsOn (HadPassed side pieces) sent old.units → HoldsOfMore side pieces sent other old.units →
+  pub come : (side : Side) (pieces : List Piece) (sent : ℕ) → HoldsOn (HadPassed side pieces) sent old.units →
+      HoldsOfMore side pieces sent other old.units →
       AllCome (HadPassed side pieces) sent records × HoldsOn (HadPassed side pieces) (sent + length (units_sent records)) new.units
 
 -- so many more, up to the last number of a u64

@@ -1,7 +1,5 @@
-use Rattle.std.proofs.Common.{Ok, refl, sym, ap, subst, ◌∙◌}
-use Rattle.dna_packet.specs.Packet.{IsReturned, view}
-use Rattle.dna_packet.specs.declared.packet.Packet.{Packet}
-use Rattle.dna_node.specs.Content.{content_of}
+use Rattle.accusing_links.proofs.Prelude.{Ok, refl, sym, ap, subst, ◌∙◌, IsReturned, Packet, content_of}
+use Rattle.dna_packet.specs.Packet.{view}
 use Rattle.accusing_links.proofs.Packets.{carries_message, carries_nothing, never}
 use Rattle.accusing_links.proofs.found.find.Goals as goal
 

@@ -1,11 +1,7 @@
-use Rattle.std.proofs.Common.{Result, Ok, refl, sym, ap, subst, ◌∙◌}
-use Rattle.dna_packet.specs.declared.fault.NspFault.{NspFault}
-use Rattle.dna_packet.specs.declared.packet.Packet.{Packet}
-use Rattle.dna_packet.specs.Nsp.{NspValue}
-use Rattle.dna_packet.specs.Packet.{IsReturned, view}
-use Rattle.dna_node.specs.Content.{content_of, message_in}
-use Rattle.accusing_links.proofs.Packets.{carries_message, carries_nothing, never}
-use Rattle.accusing_segments.specs.History.{message_of}
+use Rattle.accusing_segments.proofs.Prelude.{Result, Ok, refl, sym, ap, subst, ◌∙◌, NspFault, Packet, NspValue, IsReturned, content_of}
+use Rattle.accusing_segments.proofs.Prelude.{carries_message, carries_nothing, never, message_of}
+use Rattle.dna_packet.specs.Packet.{view}
+use Rattle.dna_node.specs.Content.{message_in}
 use Rattle.accusing_segments.proofs.message.message_in_packet.Goals as goal
 
 pub returns-then-returned : goal.returns-then-returned

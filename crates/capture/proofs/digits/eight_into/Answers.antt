@@ -1,14 +1,17 @@
-use Rattle.std.proofs.Common.{◌*◌, ◌+◌, ◌-◌, arith}
-use Rattle.capture.proofs.SpelledLaws.{piece_spelled, others_within}
+use Rattle.std.proofs.Common.{◌*◌, sym, ◌∙◌}
+use Rattle.capture.proofs.SpelledLaws.{others_within}
+use Rattle.capture.proofs.LanesLaws.{block_spelled, bytes_put}
 use Rattle.capture.proofs.digits.eight_into.Goals as goal
 
 pub returns-clause-spelled : goal.returns-clause-spelled
 returns-clause-spelled c all before =
-    let at = c.args.at in
-    rw c.copy_from_slice.ensures.after (piece_spelled c.args.bytes.now c.args.text.now c.each_into-all.new.bytes _ at 8 (2 * (at + 8) - 2 * at)
-    (omega arith) (omega arith) (omega arith) before (c.each_into-all.ensures.spelled all))
+    block_spelled c.args.bytes.now c.args.text.now c.values_of-values.result c.eight_of.result c.args.at 8 c.values_of-values.ensures
+    c.eight_of.ensures
+    (sym c.are_values.ensures ∙ all) c.requires.long c.requires.within before
 
 pub returns-clause-others : goal.returns-clause-others
 returns-clause-others c none =
-    let at = c.args.at in
-    others_within c.args.text.now (2 * at) (2 * (at + 8) - 2 * at) (c.each_into-all.ensures.others none)
+    others_within c.args.text.now (2 * c.args.at) 16 (sym c.values_of-values.ensures.tested ∙ sym c.are_values.ensures ∙ none)
+
+pub returns-clause-bytes : goal.returns-clause-bytes
+returns-clause-bytes c = bytes_put c.args.at c.args.bytes.now c.eight_of.result c.requires.fit c.eight_of.ensures.fits

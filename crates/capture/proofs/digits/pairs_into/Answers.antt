@@ -3,16 +3,11 @@ use Rattle.capture.proofs.DigitsLaws.{pairs_of_others}
 use Rattle.capture.proofs.SpelledLaws.{none_spelled, fewer_spelled, pairs_of_spelled, pairs_by}
 use Rattle.capture.proofs.digits.pairs_into.Goals as goal
 
-pub returns-then-len-lt-EIGHT : goal.returns-then-len-lt-EIGHT
-returns-then-len-lt-EIGHT c =
-    pairs_by c.args.text.now c.each_into.new.bytes _ c.each_into.result (omega arith) c.each_into.ensures.bytes (omega arith) (omega arith)
-    c.each_into.ensures.spelled c.each_into.ensures.others
-
 pub loop-block-init : goal.loop-block-init
 loop-block-init c = (none_spelled c.args.bytes.now c.args.text.now, λ i. omega (arith, c.type_inv.bytes i))
 
-pub returns-then-not-eight_into : goal.returns-then-not-eight_into
-returns-then-not-eight_into c = pairs_of_others c.args.text.now (c.eight_into.ensures.others c.if-not-eight_into.true)
+pub returns-then-not-sixteen_into : goal.returns-then-not-sixteen_into
+returns-then-not-sixteen_into c = pairs_of_others c.args.text.now (c.sixteen_into.ensures.others c.if-not-sixteen_into.true)
 
 pub returns-then-len-eq0 : goal.returns-then-len-eq0
 returns-then-len-eq0 c =
@@ -21,8 +16,8 @@ returns-then-len-eq0 c =
 pub returns : goal.returns
 returns c =
     let len = length c.args.bytes.now in
-    pairs_by c.args.text.now c.eight_into-2.new.bytes (len - 8 + 8) c.eight_into-2.result (omega arith) c.eight_into-2.ensures.bytes
+    pairs_by c.args.text.now c.sixteen_into-2.new.bytes (len - 16 + 16) c.sixteen_into-2.result (omega arith) c.sixteen_into-2.ensures.bytes
     (omega arith) (omega arith)
-    (λ all. c.eight_into-2.ensures.spelled all (fewer_spelled c.loop-block.bytes c.args.text.now (len - 8) (c.loop-block.block * 8) (omega arith)
+    (λ all. c.sixteen_into-2.ensures.spelled all (fewer_spelled c.loop-block.bytes c.args.text.now (len - 16) (c.loop-block.block * 16) (omega arith)
     c.loop-block.invariant.0))
-    c.eight_into-2.ensures.others
+    c.sixteen_into-2.ensures.others

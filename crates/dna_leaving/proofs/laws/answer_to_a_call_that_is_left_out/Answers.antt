@@ -1,4 +1,4 @@
-use Rattle.std.proofs.Common.{refl}
+use Rattle.dna_leaving.proofs.Prelude.{refl}
 use Rattle.dna_leaving.proofs.laws.answer_to_a_call_that_is_left_out.Goals as goal
 
 pub returns-clause-made : goal.returns-clause-made

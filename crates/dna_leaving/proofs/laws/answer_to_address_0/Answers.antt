@@ -1,4 +1,4 @@
-use Rattle.std.proofs.Common.{refl}
+use Rattle.dna_leaving.proofs.Prelude.{refl}
 use Rattle.dna_leaving.proofs.laws.answer_to_address_0.Goals as goal
 
 pub returns-clause-made : goal.returns-clause-made

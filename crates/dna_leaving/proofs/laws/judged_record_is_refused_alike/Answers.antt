@@ -1,5 +1,4 @@
-use Rattle.dna_links.specs.TrueLinks.{new_links}
-use Rattle.dna_links.specs.WireLinks.{new_wire_links}
+use Rattle.dna_leaving.proofs.Prelude.{new_links, new_wire_links}
 use Rattle.dna_leaving.proofs.Lists.{refusal_left}
 use Rattle.dna_leaving.proofs.laws.judged_record_is_refused_alike.Goals as goal
 

@@ -1,4 +1,4 @@
-use Rattle.std.proofs.Common.{refl}
+use Rattle.dna_leaving.proofs.Prelude.{refl}
 use Rattle.dna_leaving.proofs.laws.message_of_a_link_that_is_left_out.Goals as goal
 
 pub returns-clause-refused : goal.returns-clause-refused

@@ -1,4 +1,4 @@
-use Rattle.dna_leaving.specs.Worlds.{other_out, other_judged, judged_of_run}
+use Rattle.dna_leaving.proofs.Prelude.{other_out, other_judged, judged_of_run}
 use Rattle.dna_leaving.proofs.Runs.{run_is_left, refused_next}
 use Rattle.dna_leaving.proofs.laws.next_record_is_refused_alike.Goals as goal
 

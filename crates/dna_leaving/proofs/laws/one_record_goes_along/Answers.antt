@@ -1,8 +1,4 @@
-use Rattle.std.proofs.Common.{◌≡◌, subst, not, refl, Bool, true, false}
-use Rattle.dna_links.specs.TrueLinks.{Links}
-use Rattle.dna_leaving.specs.Left.{links_left}
-use Rattle.dna_leaving.specs.Right.{AreFit}
-use Rattle.dna_leaving.specs.LeftOut.{is_out}
+use Rattle.dna_leaving.proofs.Prelude.{◌≡◌, subst, not, refl, Bool, true, false, Links, links_left, AreFit, is_out}
 use Rattle.dna_leaving.proofs.Answered.{IfMade}
 use Rattle.dna_leaving.proofs.Steps.{next_left, packet_left, next_out, next_fit}
 use Rattle.dna_leaving.proofs.laws.one_record_goes_along.Goals as goal

@@ -12,5 +12,6 @@ abbrev pub invariant-loop : goal.invariant-loop
 invariant-loop g l =
     (rs : List Record)
     × IsAt (g.R.Read.remaining (tally_lent l.fn.reader)) l.capture (to_come l.capture.unread (g.R.Read.remaining (tally_lent l.reader))) l.counter rs
-    × (l.text.items ≡ capture_text Three (head_fitted l.leaving l.kept l.side).own (head_fitted l.leaving l.kept l.side).peer (records_fitted l.leaving l.kept l.side rs))
+    × (l.text.items ≡ capture_text Three (head_fitted l.leaving l.kept l.side).own (head_fitted l.leaving l.kept l.side).peer
+    (records_fitted l.leaving l.kept l.side rs))
     × (tally_faults l.reader ≡ tally_faults l.fn.reader)

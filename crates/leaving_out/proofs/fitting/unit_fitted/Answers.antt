@@ -7,7 +7,8 @@ pub returns-in_default-2 : goal.returns-in_default-2
 returns-in_default-2 c =
     let d = c.in-Sound-Data in
     let fits : IsBytes c.args.unit.now = λ i. omega (arith, c.type_inv.unit i) in
-    unit_stays c.args.leaving.now c.args.kept c.args.sender c.args.unit.now fits d.flags d.resp d.num d.body.now (sym (rw d.field-0-is at d.ensures.value))
+    unit_stays c.args.leaving.now c.args.kept c.args.sender c.args.unit.now fits d.flags d.resp d.num d.body.now
+    (sym (rw d.field-0-is at d.ensures.value))
     (sym (rw c.in_default-2.is at c.in_ok-made-in-Sound-Data.ensures))
 
 pub write_unit-requires : goal.write_unit-requires

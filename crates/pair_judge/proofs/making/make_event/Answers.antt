@@ -5,7 +5,8 @@ use Rattle.pair_judge.proofs.making.make_event.Goals as goal
 
 pub returns-in-Ok-clause-made : goal.returns-in-Ok-clause-made
 returns-in-Ok-clause-made g c = λ incoming mine theirs stands shows.
-    entered_made g.T.Top.top c.args.own.now _ incoming (record_with c.args.entry c.args.bytes.now) mine theirs c.in-Ok.ensures.ok stands shows refl refl
+    entered_made g.T.Top.top c.args.own.now _ incoming (record_with c.args.entry c.args.bytes.now) mine theirs c.in-Ok.ensures.ok stands shows refl
+    refl
 
 pub returns-in-Err-Refused-clause-made : goal.returns-in-Err-Refused-clause-made
 returns-in-Err-Refused-clause-made g c = λ incoming mine theirs stands shows.

@@ -53,7 +53,8 @@ returns-in-Ok-Fails-clause-turn g c = λ order text_a text_b come_a made_a made_
           refl refl stopped
           (same_read text_a c.args.a.now _ come_a made_a refl refl refl under.read_a) f.read f.ahead
           (stops_at g.T.Top.top B _ _ (Step c.in-Ok-Fails.refusal) f.next
-          (reached_stayed g.T.Top.top order c.args.a.now.end c.args.b.now.end _ _ made_a made_b h f.still.same_line f.still.same_end) f.ahead refused tt)
+          (reached_stayed g.T.Top.top order c.args.a.now.end c.args.b.now.end _ _ made_a made_b h f.still.same_line f.still.same_end) f.ahead refused
+          tt)
           (λ p rest_a rest_b waits. c.endings.ensures.b_refused_behind _ _ h.world made_a rest_a made_b rest_b p f.next c.in-Ok-Fails.refusal h.run
           (waits h.world.a h.world.b h.stands_a h.stands_b.sent) refused)
           (λ rest_b. c.endings.ensures.b_refused_last _ _ h.world made_a made_b rest_b f.next c.in-Ok-Fails.refusal h.run refused)),

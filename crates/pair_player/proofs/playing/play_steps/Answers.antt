@@ -34,7 +34,8 @@ returns-in-Err-write_full-clause-plays g c text is =
     let advances = rw c.in-Ok-Some.field-0-is at c.in-Ok-Some.ensures.advances c.loop-steps.invariant.1 in
     let step = line_with c.in-Ok-Some.line c.advance.new.self.bytes in
     let on = step_on _ _ _ h step c.advance.new.self after
-    (standing c.make_step.new.ends c.make_step.new.texts.a.items c.make_step.new.texts.b.items c.make_step.new.texts.three c.make_step.new.texts.is_begun) advances
+    (standing c.make_step.new.ends c.make_step.new.texts.a.items c.make_step.new.texts.b.items c.make_step.new.texts.three
+    c.make_step.new.texts.is_begun) advances
     (sym (c.is_too_late_for.ensures c.advance.new.self.bytes) ∙ c.if-is_too_late_for.false)
     c.in-Ok.ensures.step in
     fails _ _ _ on c.in-Err-write_full.side (tally_faults c.loop-steps.a) (tally_faults c.loop-steps.b) (
@@ -90,7 +91,8 @@ loop-steps-preserved g c =
       λ text is.
           let h = c.loop-steps.invariant.0 text is in
           let on = step_on _ _ _ h step c.advance.new.self after
-          (standing c.make_step.new.ends c.make_step.new.texts.a.items c.make_step.new.texts.b.items c.make_step.new.texts.three c.make_step.new.texts.is_begun) advances
+          (standing c.make_step.new.ends c.make_step.new.texts.a.items c.make_step.new.texts.b.items c.make_step.new.texts.three
+          c.make_step.new.texts.is_begun) advances
           (sym (c.is_too_late_for.ensures c.advance.new.self.bytes) ∙ c.if-is_too_late_for.false)
           c.in-Ok.ensures.step in
           moved_on _ _ _ on (held (g.A.Write.contents (tally_lent c.write_full.new.a)) (g.B.Write.contents (tally_lent c.write_full.new.b)))

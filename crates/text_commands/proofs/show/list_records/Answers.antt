@@ -2,7 +2,8 @@ use Rattle.std.proofs.Common.{ℕ, [], subst, ◌∙◌, arith}
 use Rattle.wire_base.specs.Tally.{tally_faults}
 use Rattle.capture_record.specs.Entries.{record_with}
 use Rattle.capture.specs.Faulty.{CountsReads, is_read_fault}
-use Rattle.text_commands.proofs.Listing.{GrowingLaws, all_lines, head_fault, listed_on, no_lines, opened, read_all, read_by_then, read_to_fault, some_lines}
+use Rattle.text_commands.proofs.Listing.{GrowingLaws, all_lines, head_fault, listed_on, no_lines}
+use Rattle.text_commands.proofs.Listing.{opened, read_all, read_by_then, read_to_fault, some_lines}
 use Rattle.text_commands.proofs.Listing.{whole_at_head, whole_to_fault}
 use Rattle.text_commands.proofs.show.list_records.Goals as goal
 

@@ -10,10 +10,12 @@ pub returns-in_default : goal.returns-in_default
 returns-in_default g c = explains_nothing c.args.printout.layers c.args.printout.form _ _ _ _ _ c.print_out_of_memory.ensures refl
 
 pub returns-in-Err-ask_again : goal.returns-in-Err-ask_again
-returns-in-Err-ask_again g c = explains_nothing c.args.printout.layers c.args.printout.form _ _ _ _ _ c.print_out_of_memory-in-Err-ask_again.ensures refl
+returns-in-Err-ask_again g c = explains_nothing c.args.printout.layers c.args.printout.form _ _ _ _ _ c.print_out_of_memory-in-Err-ask_again.ensures
+    refl
 
 pub returns-in-Err-refused_text : goal.returns-in-Err-refused_text
-returns-in-Err-refused_text g c = explains_nothing c.args.printout.layers c.args.printout.form _ _ _ _ _ c.print_out_of_memory-in-Err-refused_text.ensures refl
+returns-in-Err-refused_text g c = explains_nothing c.args.printout.layers c.args.printout.form _ _ _ _ _
+    c.print_out_of_memory-in-Err-refused_text.ensures refl
 
 pub returns-in-Accepted : goal.returns-in-Accepted
 returns-in-Accepted g c =
@@ -23,7 +25,8 @@ returns-in-Accepted g c =
     explains_acceptance c.args.printout.layers c.args.printout.form _ _ _ _ _ told.watched.ends
     (judged_there c.args.printout.layers of_a of_b (λ lent. g.A.Read.remaining lent.now) (λ lent. g.B.Read.remaining lent.now) _
     (rw c.of_period.ensures at told.ensures.answer))
-    (rw (of_a, of_b, c.of_period.ensures) at told.ensures.stands) c.in-Accepted.summary (sym c.verdict.ensures ∙ c.in-Accepted.is) c.print_accepted.ensures
+    (rw (of_a, of_b, c.of_period.ensures) at told.ensures.stands) c.in-Accepted.summary (sym c.verdict.ensures ∙ c.in-Accepted.is)
+    c.print_accepted.ensures
 
 pub returns-in-Ok-refused_text : goal.returns-in-Ok-refused_text
 returns-in-Ok-refused_text g c =

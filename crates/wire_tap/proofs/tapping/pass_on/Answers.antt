@@ -21,7 +21,8 @@ returns-in-Err-write_full-clause-turns g c was before after format text old h ad
     let p = rw c.bytes.ensures at (rw c.in-Ok-None.field-0-is at c.in-Ok-None.ensures) in
     let on = line_goes format text old _ h c.args.at.last c.args.at.side was c.args.reader.now refl after (side_state c.pass_piece.new.self.a)
     (side_state c.pass_piece.new.self.b) advances p in
-    fails c.args.at.last format text old _ (line_over format text old _ on) c.in-Err-write_full.side (tally_faults c.args.a.now) (tally_faults c.args.b.now) (
+    fails c.args.at.last format text old _ (line_over format text old _ on) c.in-Err-write_full.side (tally_faults c.args.a.now)
+    (tally_faults c.args.b.now) (
       outlet c.write_full.new.of_a.text (g.A.Write.contents (tally_lent c.write_full.new.a)) (tally_faults c.write_full.new.a),
       outlet c.write_full.new.of_b.text (g.B.Write.contents (tally_lent c.write_full.new.b)) (tally_faults c.write_full.new.b),
     ) c.in-Err-write_full.ensures.writes

@@ -11,7 +11,8 @@ returns-in-Err-write_heads-clause-taps g c =
     let heads = rw (c.format_of-format.ensures, c.node_a.ensures, c.node_b.ensures) at c.in-Ok-heads.ensures in
     head_fails _ _ (g.W.Read.remaining (tally_lent c.open.new.reader))
     (held (g.A.Write.contents (tally_lent c.args.a.now)) (g.B.Write.contents (tally_lent c.args.b.now))) c.in-Ok.reader c.in-Ok.ensures.opens
-    c.args.asked.last c.in-Err-write_heads.side (tally_faults c.args.a.now) (tally_faults c.args.b.now) c.as_slice.result.now c.as_slice-2.result.now (
+    c.args.asked.last c.in-Err-write_heads.side (tally_faults c.args.a.now) (tally_faults c.args.b.now)
+    c.as_slice.result.now c.as_slice-2.result.now (
       outlet [] (g.A.Write.contents (tally_lent c.write_heads.new.a)) (tally_faults c.write_heads.new.a),
       outlet [] (g.B.Write.contents (tally_lent c.write_heads.new.b)) (tally_faults c.write_heads.new.b),
     ) (c.as_slice.ensures.value ∙ heads.0) (c.as_slice-2.ensures.value ∙ heads.1) c.in-Err-write_heads.ensures

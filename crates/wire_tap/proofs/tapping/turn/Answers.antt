@@ -7,7 +7,8 @@ use Rattle.wire_tap.proofs.tapping.turn.Goals as goal
 pub returns-in-Ok-Some-clause-turns : goal.returns-in-Ok-Some-clause-turns
 returns-in-Ok-Some-clause-turns g c format text old h =
     let advances = rw c.in-Ok-Some.field-0-is at c.in-Ok-Some.ensures.advances c.requires in
-    c.pass_on.ensures.turns c.args.reader.now _ (to_come c.advance.new.self.unread (g.W.Read.remaining (tally_lent c.advance.new.reader))) format text old h
+    c.pass_on.ensures.turns c.args.reader.now _ (to_come c.advance.new.self.unread (g.W.Read.remaining (tally_lent c.advance.new.reader))) format text
+    old h
     advances
 
 pub returns-in-Ok-None-clause-turns : goal.returns-in-Ok-None-clause-turns

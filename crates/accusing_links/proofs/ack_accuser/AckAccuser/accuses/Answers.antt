@@ -1,6 +1,5 @@
-use Rattle.std.proofs.Common.{◌∙◌}
-use Rattle.accusing_links.proofs.Backward.{back_own}
-use Rattle.accusing_links.proofs.Telling.{back_known}
+use Rattle.accusing_links.proofs.Prelude.{◌∙◌}
+use Rattle.accusing_links.proofs.{Backward.back_own, Telling.back_known}
 use Rattle.accusing_links.proofs.ack_accuser.AckAccuser.accuses.Goals as goal
 
 pub returns-clause-known : goal.returns-clause-known

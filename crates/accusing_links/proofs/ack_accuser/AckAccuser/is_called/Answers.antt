@@ -1,5 +1,4 @@
-use Rattle.std.proofs.Common.{ap, ◌∙◌}
-use Rattle.accusing_links.specs.AckAnswers.{AckSight}
+use Rattle.accusing_links.proofs.Prelude.{ap, ◌∙◌, AckSight}
 use Rattle.accusing_links.proofs.Telling.{first_call}
 use Rattle.accusing_links.proofs.ack_accuser.AckAccuser.is_called.Goals as goal
 

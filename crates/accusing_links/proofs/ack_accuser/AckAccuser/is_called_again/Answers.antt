@@ -1,5 +1,4 @@
-use Rattle.std.proofs.Common.{sym, ap, ◌∙◌}
-use Rattle.accusing_links.specs.AckAnswers.{AckSight}
+use Rattle.accusing_links.proofs.Prelude.{sym, ap, ◌∙◌, AckSight}
 use Rattle.accusing_links.proofs.Telling.{second_call}
 use Rattle.accusing_links.proofs.ack_accuser.AckAccuser.is_called_again.Goals as goal
 

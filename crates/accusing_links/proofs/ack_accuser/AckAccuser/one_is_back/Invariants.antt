@@ -1,7 +1,4 @@
-use Rattle.std.proofs.Common.{◌≡◌, false, take}
-use Rattle.std.specs.List.{list_any}
-use Rattle.accusing_links.specs.AckAnswers.{told_by}
-use Rattle.accusing_links.specs.Back.{is_back}
+use Rattle.accusing_links.proofs.Prelude.{◌≡◌, false, take, list_any, told_by, is_back}
 use Rattle.accusing_links.proofs.ack_accuser.AckAccuser.one_is_back.Given as goal
 
 abbrev pub invariant-loop-word : goal.invariant-loop-word

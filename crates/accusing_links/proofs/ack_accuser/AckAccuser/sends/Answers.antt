@@ -1,7 +1,4 @@
-use Rattle.std.proofs.Common.{ap, sym, ◌∙◌}
-use Rattle.ddcmp_msg.specs.Message.{view}
-use Rattle.ddcmp_msg.specs.declared.message.Message.{Message}
-use Rattle.ddcmp_msg.specs.Reading.{reading, reading_view, Sound}
+use Rattle.accusing_links.proofs.Prelude.{ap, sym, ◌∙◌, view, Message, reading, reading_view, Sound}
 use Rattle.accusing_links.proofs.Telling.{unit_told}
 use Rattle.accusing_links.proofs.ack_accuser.AckAccuser.sends.Goals as goal
 

@@ -1,7 +1,4 @@
-use Rattle.std.proofs.Common.{ap, ◌∙◌}
-use Rattle.dna_packet.specs.ReadingNsp.{nsp_at}
-use Rattle.dna_node.specs.Content.{content, message_in}
-use Rattle.accusing_links.specs.inner.Found.{content_found}
+use Rattle.accusing_links.proofs.Prelude.{ap, ◌∙◌, nsp_at, content, message_in, content_found}
 use Rattle.accusing_links.proofs.Telling.{packet_told}
 use Rattle.accusing_links.proofs.ack_accuser.AckAccuser.sends_packet.Goals as goal
 

@@ -1,7 +1,4 @@
-use Rattle.std.proofs.Common.{◌≡◌, ℕ, ◌+◌, ◌%◌, true, false, sym, subst, arith, ◌∙◌}
-use Rattle.dna_links.specs.SegmentBook.{wire}
-use Rattle.accusing_links.specs.Segments.{has}
-use Rattle.accusing_links.specs.Back.{was_said}
+use Rattle.accusing_links.proofs.Prelude.{◌≡◌, ℕ, ◌+◌, ◌%◌, true, false, sym, subst, arith, ◌∙◌, wire, has, was_said}
 use Rattle.accusing_links.proofs.Saying.{one_more_said, said_one}
 use Rattle.accusing_links.proofs.ack_accuser.AckAccuser.was_said.Goals as goal
 

@@ -1,6 +1,4 @@
-use Rattle.std.proofs.Common.{◌≡◌, false}
-use Rattle.accusing_links.specs.Segments.{has}
-use Rattle.accusing_links.specs.Back.{was_said}
+use Rattle.accusing_links.proofs.Prelude.{◌≡◌, false, has, was_said}
 use Rattle.accusing_links.proofs.ack_accuser.AckAccuser.was_said.Given as goal
 
 abbrev pub invariant-loop-above : goal.invariant-loop-above

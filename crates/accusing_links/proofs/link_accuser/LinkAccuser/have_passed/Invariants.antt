@@ -1,7 +1,4 @@
-use Rattle.std.proofs.Common.{◌≡◌, true, take}
-use Rattle.std.specs.List.{list_all}
-use Rattle.accusing_links.specs.Segments.{has}
-use Rattle.accusing_links.specs.Wrong.{is_right_word}
+use Rattle.accusing_links.proofs.Prelude.{◌≡◌, true, take, list_all, has, is_right_word}
 use Rattle.accusing_links.proofs.link_accuser.LinkAccuser.have_passed.Given as goal
 
 abbrev pub invariant-loop-word : goal.invariant-loop-word

@@ -1,8 +1,5 @@
-use Rattle.std.proofs.Common.{◌∙◌}
-use Rattle.accusing_links.specs.Answers.{heard_by}
-use Rattle.accusing_links.specs.Heard.{heard}
-use Rattle.accusing_links.proofs.Final.{wrong_own}
-use Rattle.accusing_links.proofs.Passing.{own_noted, unit_same}
+use Rattle.accusing_links.proofs.Prelude.{◌∙◌, heard_by, heard}
+use Rattle.accusing_links.proofs.{Final.wrong_own, Passing.own_noted, Passing.unit_same}
 use Rattle.accusing_links.proofs.link_accuser.LinkAccuser.sends.Goals as goal
 
 pub returns-clause-known : goal.returns-clause-known

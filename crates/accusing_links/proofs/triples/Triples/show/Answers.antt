@@ -1,5 +1,4 @@
-use Rattle.std.proofs.Common.{ℕ, List, ◌||◌, ap, ◌∙◌}
-use Rattle.accusing_links.specs.Segments.{is_this, has}
+use Rattle.accusing_links.proofs.Prelude.{ℕ, List, ◌||◌, ap, ◌∙◌, is_this, has}
 use Rattle.accusing_links.proofs.Inserted.{inserted, three_compared, three_exact}
 use Rattle.accusing_links.proofs.triples.Triples.show.Goals as goal
 

@@ -1,7 +1,5 @@
-use Rattle.std.proofs.Common.{ℕ, List, ◌||◌, sym, ap, ◌∙◌}
+use Rattle.accusing_links.proofs.Prelude.{ℕ, List, ◌||◌, sym, ap, ◌∙◌, remove_key, is_this, has}
 use Rattle.std.specs.BTreeMap.{is_at}
-use Rattle.std.specs.Set.{remove_key}
-use Rattle.accusing_links.specs.Segments.{is_this, has}
 use Rattle.accusing_links.proofs.Inserted.{inserted, taken_out, was_absent, three_compared, three_exact, three_same}
 use Rattle.accusing_links.proofs.triples.Triples.show_beside.Goals as goal
 

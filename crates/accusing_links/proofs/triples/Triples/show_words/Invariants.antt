@@ -1,6 +1,4 @@
-use Rattle.std.proofs.Common.{◌≡◌, ◌||◌, ℕ, take}
-use Rattle.accusing_links.specs.Back.{words_shown}
-use Rattle.accusing_links.specs.Segments.{has}
+use Rattle.accusing_links.proofs.Prelude.{◌≡◌, ◌||◌, ℕ, take, words_shown, has}
 use Rattle.accusing_links.proofs.triples.Triples.show_words.Given as goal
 
 abbrev pub invariant-loop-word : goal.invariant-loop-word

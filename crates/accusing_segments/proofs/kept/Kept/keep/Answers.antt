@@ -1,6 +1,4 @@
-use Rattle.std.proofs.Common.{List, ◌||◌, ap, ◌∙◌}
-use Rattle.accusing_links.proofs.Inserted.{inserted}
-use Rattle.accusing_segments.specs.History.{is_this, has}
+use Rattle.accusing_segments.proofs.Prelude.{List, ◌||◌, ap, ◌∙◌, inserted, is_this, has}
 use Rattle.accusing_segments.proofs.Known.{Four, four_compared, four_exact}
 use Rattle.accusing_segments.proofs.kept.Kept.keep.Goals as goal
 

@@ -1,5 +1,4 @@
-use Rattle.std.proofs.Common.{ap, ◌∙◌}
-use Rattle.accusing_segments.specs.Noted.{Noted, first_noted}
+use Rattle.accusing_segments.proofs.Prelude.{ap, ◌∙◌, Noted, first_noted}
 use Rattle.accusing_segments.proofs.Notes.{forgotten}
 use Rattle.accusing_segments.proofs.noted.Noted.forget.Goals as goal
 

@@ -1,4 +1,4 @@
-use Rattle.std.proofs.Common.{◌∙◌}
+use Rattle.accusing_segments.proofs.Prelude.{◌∙◌}
 use Rattle.accusing_segments.proofs.Notes.{not_this}
 use Rattle.accusing_segments.proofs.noted.Noted.release.Goals as goal
 

@@ -1,8 +1,4 @@
-use Rattle.std.proofs.Common.{◌≡◌, ℕ, ◌<◌, true, false}
-use Rattle.dna_links.specs.SegmentBook.{REACH}
-use Rattle.accusing_segments.specs.History.{Known}
-use Rattle.accusing_segments.specs.Wrong.{is_covered}
-use Rattle.accusing_segments.specs.Noted.{first_noted}
+use Rattle.accusing_segments.proofs.Prelude.{◌≡◌, ℕ, ◌<◌, true, false, REACH, Known, is_covered, first_noted}
 use Rattle.accusing_segments.proofs.noted.Noted.release.Given as goal
 
 abbrev pub invariant-loop-below : goal.invariant-loop-below

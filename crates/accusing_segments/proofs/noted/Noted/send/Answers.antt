@@ -1,7 +1,4 @@
-use Rattle.std.proofs.Common.{Some, None, cond, eqb, ◌&&◌, sym, ap₂, ◌∙◌}
-use Rattle.dna_links.specs.Segmentation.{Piece}
-use Rattle.accusing_segments.specs.Repeats.{first_of}
-use Rattle.accusing_segments.specs.Noted.{Noted, first_noted}
+use Rattle.accusing_segments.proofs.Prelude.{Some, None, cond, eqb, ◌&&◌, sym, ap₂, ◌∙◌, Piece, first_of, Noted, first_noted}
 use Rattle.accusing_segments.proofs.Notes.{noted_now}
 use Rattle.accusing_segments.proofs.noted.Noted.send.Goals as goal
 

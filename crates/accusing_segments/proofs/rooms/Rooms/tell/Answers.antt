@@ -1,6 +1,4 @@
-use Rattle.std.proofs.Common.{◌≡◌, ℕ, true, false, sym, subst, ap, ◌∙◌, ◌||◌, List}
-use Rattle.accusing_segments.specs.History.{is_room}
-use Rattle.accusing_segments.specs.Fits.{fits}
+use Rattle.accusing_segments.proofs.Prelude.{◌≡◌, ℕ, true, false, sym, subst, ap, ◌∙◌, ◌||◌, List, is_room, fits}
 use Rattle.accusing_segments.proofs.Sizes.{told_before, told_now}
 use Rattle.accusing_segments.proofs.rooms.Rooms.tell.Goals as goal
 

@@ -1,6 +1,5 @@
-use Rattle.std.proofs.Common.{sym, ◌∙◌}
-use Rattle.accusing_segments.proofs.Final.{wrong_own}
-use Rattle.accusing_segments.proofs.Known.{known_same}
+use Rattle.accusing_segments.proofs.Prelude.{sym, ◌∙◌}
+use Rattle.accusing_segments.proofs.{Final.wrong_own, Known.known_same}
 use Rattle.accusing_segments.proofs.segment_accuser.SegmentAccuser.accuses.Goals as goal
 
 pub returns-clause-known : goal.returns-clause-known

@@ -1,6 +1,4 @@
-use Rattle.std.proofs.Common.{ap, ◌∙◌}
-use Rattle.accusing_segments.specs.Answers.{Sight}
-use Rattle.accusing_segments.specs.Fits.{fits}
+use Rattle.accusing_segments.proofs.Prelude.{ap, ◌∙◌, Sight, fits}
 use Rattle.accusing_segments.proofs.segment_accuser.SegmentAccuser.has_room.Goals as goal
 
 pub returns : goal.returns

@@ -1,8 +1,4 @@
-use Rattle.std.proofs.Common.{ap, ◌∙◌}
-use Rattle.std.proofs.lemmas.Bool.{or_left}
-use Rattle.accusing_segments.specs.Answers.{Sight}
-use Rattle.accusing_segments.specs.History.{has}
-use Rattle.accusing_segments.specs.Noted.{first_noted}
+use Rattle.accusing_segments.proofs.Prelude.{ap, ◌∙◌, or_left, Sight, has, first_noted}
 use Rattle.accusing_segments.proofs.Passing.{this_is}
 use Rattle.accusing_segments.proofs.segment_accuser.SegmentAccuser.hears_number.Goals as goal
 

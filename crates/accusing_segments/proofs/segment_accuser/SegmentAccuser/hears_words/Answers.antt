@@ -1,9 +1,5 @@
-use Rattle.std.proofs.Common.{◌∙◌, arith}
-use Rattle.std.proofs.lemmas.Bool.{or_right}
-use Rattle.dna_links.specs.SegmentBook.{REACH}
-use Rattle.accusing_segments.specs.History.{has}
-use Rattle.accusing_segments.proofs.Known.{next_word}
-use Rattle.accusing_segments.proofs.NotedAfter.{covered_less}
+use Rattle.accusing_segments.proofs.Prelude.{◌∙◌, arith, or_right, REACH, has}
+use Rattle.accusing_segments.proofs.{Known.next_word, NotedAfter.covered_less}
 use Rattle.accusing_segments.proofs.segment_accuser.SegmentAccuser.hears_words.Goals as goal
 
 pub loop-word-preserved : goal.loop-word-preserved

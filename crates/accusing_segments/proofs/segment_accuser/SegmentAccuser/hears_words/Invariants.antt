@@ -1,8 +1,4 @@
-use Rattle.std.proofs.Common.{◌≡◌, ◌||◌, ℕ, false, take}
-use Rattle.dna_links.specs.SegmentBook.{REACH}
-use Rattle.accusing_segments.specs.History.{has, words_name}
-use Rattle.accusing_segments.specs.Wrong.{is_covered}
-use Rattle.accusing_segments.specs.Noted.{first_noted}
+use Rattle.accusing_segments.proofs.Prelude.{◌≡◌, ◌||◌, ℕ, false, take, REACH, has, words_name, is_covered, first_noted}
 use Rattle.accusing_segments.proofs.segment_accuser.SegmentAccuser.hears_words.Given as goal
 
 abbrev pub invariant-loop-word : goal.invariant-loop-word

@@ -1,7 +1,4 @@
-use Rattle.std.proofs.Common.{ap, ◌∙◌, ◌||◌}
-use Rattle.accusing_segments.specs.Answers.{Sight}
-use Rattle.accusing_segments.specs.Fits.{fits}
-use Rattle.accusing_segments.specs.History.{is_room}
+use Rattle.accusing_segments.proofs.Prelude.{ap, ◌∙◌, ◌||◌, Sight, fits, is_room}
 use Rattle.accusing_segments.proofs.NotedAfter.{on_any}
 use Rattle.accusing_segments.proofs.segment_accuser.SegmentAccuser.is_called.Goals as goal
 

@@ -1,6 +1,5 @@
-use Rattle.std.proofs.Common.{sym, ◌∙◌}
-use Rattle.accusing_segments.proofs.OneCallFinal.{changed_own}
-use Rattle.accusing_segments.proofs.NotedAfter.{changed_same}
+use Rattle.accusing_segments.proofs.Prelude.{sym, ◌∙◌}
+use Rattle.accusing_segments.proofs.{OneCallFinal.changed_own, NotedAfter.changed_same}
 use Rattle.accusing_segments.proofs.segment_accuser.SegmentAccuser.is_changed.Goals as goal
 
 pub returns-clause-known : goal.returns-clause-known

@@ -1,9 +1,5 @@
-use Rattle.std.proofs.Common.{◌≡◌, ℕ, ◌+◌, ◌%◌, true, false, sym, subst, arith, ◌∙◌}
-use Rattle.dna_links.specs.SegmentBook.{wire}
-use Rattle.accusing_segments.specs.History.{has}
-use Rattle.accusing_segments.specs.Wrong.{is_covered}
-use Rattle.accusing_segments.proofs.Known.{one_more_covered}
-use Rattle.accusing_segments.proofs.Passing.{covered}
+use Rattle.accusing_segments.proofs.Prelude.{◌≡◌, ℕ, ◌+◌, ◌%◌, true, false, sym, subst, arith, ◌∙◌, wire, has, is_covered}
+use Rattle.accusing_segments.proofs.{Known.one_more_covered, Passing.covered}
 use Rattle.accusing_segments.proofs.segment_accuser.SegmentAccuser.is_covered.Goals as goal
 
 pub returns-then-named : goal.returns-then-named

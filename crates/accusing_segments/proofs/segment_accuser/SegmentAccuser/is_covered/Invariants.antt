@@ -1,6 +1,4 @@
-use Rattle.std.proofs.Common.{◌≡◌, false}
-use Rattle.accusing_segments.specs.History.{has}
-use Rattle.accusing_segments.specs.Wrong.{is_covered}
+use Rattle.accusing_segments.proofs.Prelude.{◌≡◌, false, has, is_covered}
 use Rattle.accusing_segments.proofs.segment_accuser.SegmentAccuser.is_covered.Given as goal
 
 abbrev pub invariant-loop-above : goal.invariant-loop-above

@@ -1,7 +1,4 @@
-use Rattle.std.proofs.Common.{Option, not, sym, ap, ◌∙◌}
-use Rattle.dna_packet.specs.Nsp.{NspValue}
-use Rattle.accusing_segments.specs.Wrong.{is_long_in}
-use Rattle.accusing_segments.specs.inner.Seen.{seen}
+use Rattle.accusing_segments.proofs.Prelude.{Option, not, sym, ap, ◌∙◌, NspValue, is_long_in, seen}
 use Rattle.accusing_segments.proofs.Known.{segment_found}
 use Rattle.accusing_segments.proofs.segment_accuser.SegmentAccuser.is_long.Goals as goal
 

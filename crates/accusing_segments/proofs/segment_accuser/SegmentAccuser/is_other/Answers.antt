@@ -1,8 +1,4 @@
-use Rattle.std.proofs.Common.{Option, sym, ap, ◌∙◌}
-use Rattle.dna_packet.specs.Nsp.{NspValue}
-use Rattle.accusing_segments.specs.Noted.{shown}
-use Rattle.accusing_segments.specs.Repeats.{is_changed_in}
-use Rattle.accusing_segments.specs.inner.Seen.{seen}
+use Rattle.accusing_segments.proofs.Prelude.{Option, sym, ap, ◌∙◌, NspValue, shown, is_changed_in, seen}
 use Rattle.accusing_segments.proofs.Known.{segment_found}
 use Rattle.accusing_segments.proofs.segment_accuser.SegmentAccuser.is_other.Goals as goal
 

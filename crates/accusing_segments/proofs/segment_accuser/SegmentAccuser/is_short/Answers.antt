@@ -1,6 +1,4 @@
-use Rattle.std.proofs.Common.{Bool, sym, ap, ◌∙◌, ◌||◌}
-use Rattle.std.proofs.lemmas.Bool.{or_left}
-use Rattle.accusing_segments.specs.Fits.{fits}
+use Rattle.accusing_segments.proofs.Prelude.{Bool, sym, ap, ◌∙◌, ◌||◌, or_left, fits}
 use Rattle.accusing_segments.proofs.segment_accuser.SegmentAccuser.is_short.Goals as goal
 
 pub returns-then-has_room : goal.returns-then-has_room

@@ -1,6 +1,5 @@
-use Rattle.std.proofs.Common.{sym, ◌∙◌}
-use Rattle.accusing_segments.proofs.Final.{long_own}
-use Rattle.accusing_segments.proofs.Known.{long_same}
+use Rattle.accusing_segments.proofs.Prelude.{sym, ◌∙◌}
+use Rattle.accusing_segments.proofs.{Final.long_own, Known.long_same}
 use Rattle.accusing_segments.proofs.segment_accuser.SegmentAccuser.is_too_long.Goals as goal
 
 pub returns-clause-known : goal.returns-clause-known

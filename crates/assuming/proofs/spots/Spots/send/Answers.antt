@@ -8,5 +8,6 @@ pub returns-clause-of : goal.returns-clause-of
 returns-clause-of c = λ rs h.
     let made = c.in_ok-put_message.ensures in
     let view = c.self.view_is in
-    goes_on rs (Sent c.args.bytes.now) c.args.self.now _ h (spots_are rs (Sent c.args.bytes.now) _ _ (ap (λ (k : Kept). k.spots) view) (made.each rs h))
+    goes_on rs (Sent c.args.bytes.now) c.args.self.now _ h
+    (spots_are rs (Sent c.args.bytes.now) _ _ (ap (λ (k : Kept). k.spots) view) (made.each rs h))
     (ap (λ (k : Kept). k.units + 1) view ∙ ap (λ (n : ℕ). n + 1) made.same.0) refl

@@ -1,32 +1,11 @@
-use Rattle.std.proofs.Common.{ap, sym, ◌∙◌, arith, refl}
+use Rattle.std.proofs.Common.{refl}
 use Rattle.wire_base.specs.Tally.{tally_lent}
-use Rattle.capture.specs.Reading.{head_at}
-use Rattle.capture.proofs.HeadLaws.{head_takes}
-use Rattle.capture.proofs.TakeLaws.{line_consumed, no_head, start_kept}
+use Rattle.capture.proofs.PartText.{departs_as_part}
 use Rattle.capture.proofs.reader.CaptureReader.open.Goals as goal
 
-pub returns-in-Some-clause-opens : goal.returns-in-Some-clause-opens
-returns-in-Some-clause-opens g c =
-    let found = rw c.in-Ok-Some.field-0-is at c.in-Ok-Some.ensures.found in
-    let kept = start_kept c.in-Ok.lines.unread (g.R.Read.remaining (tally_lent c.args.reader.now)) _ c.in-Ok.ensures.1 found.3 in
-    let start = c.in-Ok.ensures.0 in
-    let same = c.in-Ok-Some.ensures.taken in
-    let more = c.skip.ensures.taken in
-    let head = head_takes _ c.in-Some.format c.in-Some.own c.in-Some.peer (ap head_at (sym c.line.ensures) ∙ sym c.in-Some.ensures) in
-    let left = g.R.Read.remaining (tally_lent c.next.new.reader) in (
-      head.own_fits,
-      head.peer_fits,
-      omega arith,
-      refl,
-      rw (c.skip.ensures.unread, c.first_form.ensures.format)
-          (line_consumed c.next.new.self.unread c.in-Ok-Some.len _ left _ found.1 found.2 head.spelled kept),
-      rw c.first_form.ensures.format c.first_form.ensures.form,
-    )
-
-pub returns-in-Ok-Some-clause-opens : goal.returns-in-Ok-Some-clause-opens
-returns-in-Ok-Some-clause-opens g c =
-    let found = rw c.in-Ok-Some.field-0-is at c.in-Ok-Some.ensures.found in
-    let kept = start_kept c.in-Ok.lines.unread (g.R.Read.remaining (tally_lent c.args.reader.now)) _ c.in-Ok.ensures.1 found.3 in
-    let left = g.R.Read.remaining (tally_lent c.next.new.reader) in
-    let none = ap head_at (sym c.line.ensures) ∙ sym c.in-None.ensures in
-    (refl, no_head c.next.new.self.unread c.in-Ok-Some.len _ left found.1 found.2 kept none)
+pub returns-in-Ok-Part-clause-opens : goal.returns-in-Ok-Part-clause-opens
+returns-in-Ok-Part-clause-opens g c = (
+  refl,
+  departs_as_part _ (g.R.Read.remaining (tally_lent c.open_either.new.reader)) c.in-Ok-Part.field-0-0
+      (rw c.in-Ok-Part.field-0-is at c.in-Ok-Part.ensures.opens),
+)

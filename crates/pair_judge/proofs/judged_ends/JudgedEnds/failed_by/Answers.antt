@@ -10,10 +10,12 @@ pub returns-in-Some : goal.returns-in-Some
 returns-in-Some g c =
     let r = c.in-Refused in
     failed_in (queues_of g.row.QUEUES) c.args.self.now r.side r.place r.reason _ (ap (λ (ends : ShownEnds). ends.verdict) (sym c.self.view_is) ∙ r.is)
-    (subst (λ (found : Option FailedCheck). IsFirstOf r.reason (checks_at (queues_of g.row.QUEUES) r.side c.args.self.now) found) c.in-Some.is c.first_at.ensures)
+    (subst (λ (found : Option FailedCheck). IsFirstOf r.reason (checks_at (queues_of g.row.QUEUES) r.side c.args.self.now) found) c.in-Some.is
+    c.first_at.ensures)
 
 pub returns-in-None : goal.returns-in-None
 returns-in-None g c =
     let r = c.in-Refused in
     failed_in (queues_of g.row.QUEUES) c.args.self.now r.side r.place r.reason _ (ap (λ (ends : ShownEnds). ends.verdict) (sym c.self.view_is) ∙ r.is)
-    (subst (λ (found : Option FailedCheck). IsFirstOf r.reason (checks_at (queues_of g.row.QUEUES) r.side c.args.self.now) found) c.in-None.is c.first_at.ensures)
+    (subst (λ (found : Option FailedCheck). IsFirstOf r.reason (checks_at (queues_of g.row.QUEUES) r.side c.args.self.now) found) c.in-None.is
+    c.first_at.ensures)

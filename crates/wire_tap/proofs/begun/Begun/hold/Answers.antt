@@ -11,9 +11,11 @@ loop-place-preserved c = record {
 }
   where
     kept : (lines : ℕ → ℕ) (at : ℕ) → KeepsLines lines at c.args.held c.args.self.now → IsOnLine lines at c.args.held c.args.piece c.args.line →
-        c.args.held + c.args.piece < 2 ^ 64 → c.args.now ≤ c.args.held + c.args.piece → (c.args.held < 8) ⊎ (c.args.now ≡ c.args.held + c.args.piece) →
+        c.args.held + c.args.piece < 2 ^ 64 → c.args.now ≤ c.args.held + c.args.piece → (c.args.held < 8) ⊎
+        (c.args.now ≡ c.args.held + c.args.piece) →
         (i : ℕ) → i < c.loop-place.place + 1 → i < c.args.now →
-        slice_index_or (slice_set c.loop-place.self.lines c.loop-place.place c.line_at.result) i 0 ≡ lines (at + (c.args.held + c.args.piece - c.args.now) + i)
+        slice_index_or (slice_set c.loop-place.self.lines c.loop-place.place c.line_at.result) i 0
+        ≡ lines (at + (c.args.held + c.args.piece - c.args.now) + i)
     kept lines at keeps on few fits all i less near = by_place (cases_lt i c.loop-place.place)
       where
         known : i ≡ c.loop-place.place → (c.args.held < 8) ⊎ (c.args.now ≡ c.args.held + c.args.piece) →
@@ -48,7 +50,8 @@ loop-place-preserved c = record {
             ∙ ap lines (there c.saturating_add-in-loop-place.result (c.args.held + c.args.piece - c.args.now) is)
 
         by_place : (i < c.loop-place.place) ⊎ (c.loop-place.place ≤ i) →
-            slice_index_or (slice_set c.loop-place.self.lines c.loop-place.place c.line_at.result) i 0 ≡ lines (at + (c.args.held + c.args.piece - c.args.now) + i)
+            slice_index_or (slice_set c.loop-place.self.lines c.loop-place.place c.line_at.result) i 0
+            ≡ lines (at + (c.args.held + c.args.piece - c.args.now) + i)
         by_place (inl older) =
             get_or-set_other c.loop-place.self.lines c.loop-place.place i c.line_at.result 0 (omega arith)
             ∙ c.loop-place.invariant.kept lines at keeps on few fits all i older near

@@ -13,7 +13,8 @@ pub returns-in-Some-2-clause-own : goal.returns-in-Some-2-clause-own
 returns-in-Some-2-clause-own c =
     let found = c.in-Completed.ensures.found in
     ends_found _ _ _ c.in-Completed.kind c.in-Completed.strays c.completed-unit.result.now (side_state c.args.self.now) _
-    (units_state c.skip-in-Completed.new.self) c.in-Some-2.ending c.in_ok-ending-in-Completed.field-0 (rw (← c.completed-unit.ensures) at found.0) found.1
+    (units_state c.skip-in-Completed.new.self) c.in-Some-2.ending c.in_ok-ending-in-Completed.field-0 (rw (← c.completed-unit.ensures) at found.0)
+    found.1
     c.skip-in-Completed.ensures.placing c.skip-in-Completed.ensures.count c.in_ok-ending-in-Completed.ensures.own
     c.in_ok-ending-in-Completed.ensures.ends c.in-Some-2.is
 

@@ -17,7 +17,8 @@ pub returns-in-Ok-Doubted-clause-segment : goal.returns-in-Ok-Doubted-clause-seg
 returns-in-Ok-Doubted-clause-segment c line_alone head side before is same count =
     let known = rw c.requires at is.first in
     let says = rw c.in-Ok-Doubted.field-0-is at c.in-Ok-Doubted.ensures.said line_alone head (seen side before) known in
-    segment_this line_alone head side before c.args.unit.now c.args.passed c.args.self.now is same count c.args.self.now.segment c.first_of-self.result
+    segment_this line_alone head side before c.args.unit.now c.args.passed c.args.self.now is same count c.args.self.now.segment
+    c.first_of-self.result
     is.segment c.first_of-self.ensures says.0 says.1
 
 pub returns-in-Ok-Nothing-clause-segment : goal.returns-in-Ok-Nothing-clause-segment

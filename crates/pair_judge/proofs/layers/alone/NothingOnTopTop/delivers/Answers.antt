@@ -10,4 +10,5 @@ of_either delivers false = record { of_a = λ head_a head_b w of_a of_b run. tt;
 
 pub returns : goal.returns
 returns g c =
-    of_either (record { of_a = c.captures_deliver_in_order.ensures.a_delivers; of_b = c.captures_deliver_in_order.ensures.b_delivers }) (not (eqb g.row.OF_PERIOD 0))
+    of_either (record { of_a = c.captures_deliver_in_order.ensures.a_delivers; of_b = c.captures_deliver_in_order.ensures.b_delivers })
+    (not (eqb g.row.OF_PERIOD 0))

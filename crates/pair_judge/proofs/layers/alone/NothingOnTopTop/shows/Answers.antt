@@ -12,4 +12,5 @@ of_either shows false = shown_of_any_period
 pub returns : goal.returns
 returns g c =
     of_either (λ head_a head_b w of_a of_b run. shown_alone head_a head_b w of_a of_b
-    (c.wire_nodes_see_right.ensures.of_wire head_a head_b _ of_a of_b (run_of_stations of_period head_a head_b w of_a of_b run))) (not (eqb g.row.OF_PERIOD 0))
+    (c.wire_nodes_see_right.ensures.of_wire head_a head_b _ of_a of_b (run_of_stations of_period head_a head_b w of_a of_b run)))
+    (not (eqb g.row.OF_PERIOD 0))

@@ -1,0 +1,17 @@
+use Rattle.std.proofs.Common.{◌*◌, sym, ◌∙◌}
+use Rattle.capture.proofs.SpelledLaws.{others_within}
+use Rattle.capture.proofs.LanesLaws.{block_spelled, bytes_put}
+use Rattle.capture.proofs.digits.sixteen_into.Goals as goal
+
+pub returns-clause-spelled : goal.returns-clause-spelled
+returns-clause-spelled c all before =
+    block_spelled c.args.bytes.now c.args.text.now c.values_of-values.result c.sixteen_of.result c.args.at 16 c.values_of-values.ensures
+    c.sixteen_of.ensures
+    (sym c.are_values.ensures ∙ all) c.requires.long c.requires.within before
+
+pub returns-clause-others : goal.returns-clause-others
+returns-clause-others c none =
+    others_within c.args.text.now (2 * c.args.at) 32 (sym c.values_of-values.ensures.tested ∙ sym c.are_values.ensures ∙ none)
+
+pub returns-clause-bytes : goal.returns-clause-bytes
+returns-clause-bytes c = bytes_put c.args.at c.args.bytes.now c.sixteen_of.result c.requires.fit c.sixteen_of.ensures.fits

@@ -1,0 +1,5 @@
+use Rattle.capture.proofs.LanesLaws.{joined_of}
+use Rattle.capture.proofs.lanes.eight_of.Goals as goal
+
+pub returns : goal.returns
+returns c = joined_of 8 c.args.values c.fits-values.0 c.fits-values.1

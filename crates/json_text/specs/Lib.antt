@@ -1,0 +1,4 @@
+pub mod Spelled
+pub mod Json
+pub mod Written
+pub mod inner
