@@ -122,6 +122,11 @@ def sent_in(records):
     return sum(record.startswith('s ') for record in records)
 
 
+def names_before(records):
+    """Whether a fault has made a receipt one of a unit of before, which no whole capture can say."""
+    return any(record.split(' ')[0] in RECEIPTS and record.split(' ')[1] == '-' for record in records)
+
+
 def texts_of(pieces, whole):
     """The texts of both captures: of a whole one in format 3."""
     heads = {side: 'ddcap 3 %s' % HEADS[side] if side == whole else 'ddcap 4 %s part' % HEADS[side] for side in 'ab'}
@@ -166,6 +171,7 @@ def cut_pairs(seed):
         if has_fault:
             spoilt(chance, pieces)
         whole = chance.choice('ab') if is_first and chance.random() < 0.7 else None
+        whole = None if whole and names_before(pieces[whole]) else whole
         yield texts_of(pieces, whole), is_run and not has_fault
 
 
