@@ -119,7 +119,7 @@ impl<A: Read + Seek, B: Read + Seek> PairCaptures<'_, '_, '_, A, B> {
             return self.answer_of_line(alloc, verdict);
         }
         if let Onlooker::Originals(originals) = &mut watched.observer
-            && let Some(refused) = explained_of(self.printout.layers, &watched.ends)
+            && let Some(refused) = refused_of(watched.ends.verdict())
         {
             let rows = &mut originals.rows;
             return explained(alloc, self.printout, refused, &watched.ends, rows);
@@ -223,13 +223,3 @@ fn refused_of(verdict: Verdict) -> Option<Refused> {
     }
 }
 
-// What is explained: a refusal of which a check of its reason is named. Where periods are not asked, that check may be of another reason, and nothing
-// is explained.
-fn explained_of(layers: Layers, ends: &JudgedEnds) -> Option<Refused> {
-    let refused = refused_of(ends.verdict())?;
-    let (_, failed) = ends.failed(layers)?;
-    match failed.reason() == refused.reason {
-        true => Some(refused),
-        false => None,
-    }
-}

@@ -214,7 +214,7 @@ fn all_picture<A: Read + Seek, B: Read + Seek>(
         marked: marked.as_slice(),
         is_checked: all.is_shown,
     };
-    svg_below(alloc, asked.range.layers, &all.pair, a, b, above)
+    svg_below(alloc, &all.pair, a, b, above)
 }
 
 // The captures of these files.

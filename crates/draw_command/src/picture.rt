@@ -11,7 +11,7 @@ use capture::CaptureFault;
 use ddcmp_msg::read_unit;
 use drawing::{DrawnPair, MAX_ROWS, Range, drawing_of};
 use ladder::{Caption, Marked};
-use pair_judge::{JudgeFault, JudgedEnds, Layers, TextFault, Verdict};
+use pair_judge::{JudgeFault, JudgedEnds, TextFault, Verdict};
 use record_words::lines::Lines;
 use std::alloc::{AllocError, Global};
 use std::io::{Read, Seek};
@@ -55,7 +55,7 @@ pub fn picture_of<A: Read + Seek, B: Read + Seek>(
         Ok(pair) => pair,
         Err(fault) => return Err(fault),
     };
-    let svg = svg_of(alloc, range.layers, &pair, a, b, title);
+    let svg = svg_of(alloc, &pair, a, b, title);
     let verdict = pair.ends.verdict();
     pair.ends.let_go();
     match svg {
@@ -72,7 +72,6 @@ pub fn picture_of<A: Read + Seek, B: Read + Seek>(
 
 fn svg_of<A: Read + Seek, B: Read + Seek>(
     alloc: Global,
-    layers: Layers,
     pair: &DrawnPair,
     a: &mut A,
     b: &mut B,
@@ -89,7 +88,7 @@ fn svg_of<A: Read + Seek, B: Read + Seek>(
         marked: &[],
         is_checked: true,
     };
-    svg_below(alloc, layers, pair, a, b, above)
+    svg_below(alloc, pair, a, b, above)
 }
 
 /// What is written above the rows of a picture, and which records get a box beside the refused one.
@@ -105,7 +104,6 @@ pub struct Above<'t> {
 /// The rows of a pair as a picture below these words. `Err`: memory was wanting, or a read failed.
 pub fn svg_below<A: Read + Seek, B: Read + Seek>(
     alloc: Global,
-    layers: Layers,
     pair: &DrawnPair,
     a: &mut A,
     b: &mut B,
@@ -114,7 +112,7 @@ pub fn svg_below<A: Read + Seek, B: Read + Seek>(
     ensures { IfOk result (λ text. IsDocument text.items) }
 {
     let check = match above.is_checked {
-        true => checked(alloc, layers, pair, a, b)?,
+        true => checked(alloc, pair, a, b)?,
         false => String::new(alloc),
     };
     let (seen, allowed) = seen_and_allowed(check.as_str());
@@ -134,7 +132,6 @@ pub fn svg_below<A: Read + Seek, B: Read + Seek>(
 // What is said of the check that the refused record does not pass. `Err`: memory was wanting, or a read failed.
 fn checked<A: Read + Seek, B: Read + Seek>(
     alloc: Global,
-    layers: Layers,
     pair: &DrawnPair,
     a: &mut A,
     b: &mut B,
@@ -143,7 +140,7 @@ fn checked<A: Read + Seek, B: Read + Seek>(
         Ok(unit) => unit,
         Err(why) => return Err(why),
     };
-    match check_words(alloc, layers, &pair.ends, &unit) {
+    match check_words(alloc, &pair.ends, &unit) {
         Ok(words) => Ok(words),
         Err(_) => Err(NoPicture::Memory),
     }
@@ -168,19 +165,15 @@ fn verdict_words(alloc: Global, verdict: Verdict) -> Result<String, AllocError> 
 // What is said of the check that the refused record does not pass, as an object; nothing where none is refused.
 fn check_words(
     alloc: Global,
-    layers: Layers,
     ends: &JudgedEnds,
     unit: &Option<Vec<u8>>,
 ) -> Result<String, AllocError> {
     let Verdict::Refused { side, reason, .. } = ends.verdict() else {
         return Ok(String::new(alloc));
     };
-    let (Some((_, failed)), Some((entry, bytes))) = (ends.failed(layers), ends.ahead(side)) else {
+    let (Some(failed), Some((entry, bytes))) = (ends.end(side).failed(), ends.ahead(side)) else {
         return Ok(String::new(alloc));
     };
-    if failed.reason() != reason {
-        return Ok(String::new(alloc));
-    }
     let unit = match unit {
         Some(unit) => Some(unit.as_slice()),
         None => None,

@@ -21,6 +21,7 @@ use Rattle.dna_node.specs.Kind.{KindNode, KindUnit, both_layers, kind_pair, kind
 use Rattle.dna_node.specs.WireLayers.{WireLayers, WireLayersUnit}
 use Rattle.pair_judge.specs.declared.course.Ahead.{Ahead}
 use Rattle.pair_judge.specs.declared.course.Ahead.TheVariants.{Unread, Waits, Ended}
+use Rattle.pair_judge.specs.declared.failed_check.FailedCheck.{FailedCheck}
 use Rattle.pair_judge.specs.declared.fault.JudgeFault.{JudgeFault}
 use Rattle.pair_judge.specs.declared.reason.Reason.{Reason}
 use Rattle.pair_judge.specs.declared.verdict.Verdict.{Verdict}
@@ -34,7 +35,8 @@ use Rattle.pair_judge.specs.Reason.{reason_of}
 -- ---- what is shown
 
 -- One end: how many of its records were made, its station's variables, its links as a node keeps them, how many units it sent, the lowest hint that
--- its next receipt may have, and the record that was read and not made, if one was; and both layers as a node keeps them, on which its checks go
+-- its next receipt may have, the record that was read and not made, if one was, and the check of that, if the run ends there; and both layers as a
+-- node keeps them, on which its checks go
 pub record ShownEnd : Type 0 where
   pub records : ℕ
   pub layers : WireLayers
@@ -43,6 +45,7 @@ pub record ShownEnd : Type 0 where
   pub sent : ℕ
   pub front : ℕ
   pub ahead : Option Record
+  pub failed : Option FailedCheck
 
 -- it waits for its unit, or can't be made
 abbrev pub record_ahead : List ℕ → Ahead → Option Record

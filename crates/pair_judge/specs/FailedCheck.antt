@@ -28,12 +28,15 @@ use Rattle.dna_station.specs.declared.state.StationEvent.TheVariants.{Start}
 use Rattle.dna_station.specs.Book.{ArrivalValue, HeaderBad, DataBad, body_of}
 use Rattle.dna_station.specs.Book as arriving
 use Rattle.dna_station.specs.Line.{coming, damage}
-use Rattle.dna_station.specs.PeriodRule.{of_period}
+use Rattle.dna_station.specs.PeriodRule.{PeriodRule, of_period}
 use Rattle.dna_station.specs.Table.{user_refusal}
 use Rattle.dna_station.specs.WireBook.{gives_new}
 use Rattle.dna_links.specs.declared.queue.Queues.{Queues}
+use Rattle.dna_links.specs.declared.tag.LinkTag.{LinkTag}
+use Rattle.dna_links.specs.Arriving.{PartnerRule, of_partner}
 use Rattle.dna_links.specs.Links.{Carried}
 use Rattle.dna_links.specs.User.{LinkEventValue}
+use Rattle.dna_links.specs.WireLinks.{WireLinks}
 use Rattle.dna_node.specs.declared.finding.Cause.{Cause}
 use Rattle.dna_node.specs.declared.finding.Cause.TheVariants as causes
 use Rattle.dna_node.specs.Content.{is_returned, link_event}
@@ -42,6 +45,7 @@ use Rattle.nsp_link.specs.FailedArrival as arrives
 use Rattle.nsp_link.specs.FailedEvent as events
 use Rattle.nsp_link.specs.FailedSending as sends
 use Rattle.nsp_link.specs.FailedSending.{or_next}
+use Rattle.nsp_link.specs.Missing.{refusal_in}
 use Rattle.pair_judge.specs.declared.failed_check.FailedCheck.{FailedCheck}
 use Rattle.pair_judge.specs.declared.failed_check.FailedCheck.TheVariants as failed
 use Rattle.pair_judge.specs.declared.failed_check.NotSound.TheVariants as not_sound
@@ -91,17 +95,24 @@ module _ (queues : Queues) where
   abbrev pub failed_message : WireLayers → MessageValue → Option FailedCheck
   failed_message s m = or_next (option_map failed.StationSending (of_station.failed_sending s.station m)) (failed_first s m)
 
--- and when it is kept
-abbrev pub failed_kept : WireLayers → ArrivalValue LayersTag → Option FailedCheck
-failed_kept s (arriving.Sound m known) =
-    failed_packet (λ packet. option_map failed.LinkArrival (arrives.failed_arrival s.links packet (tag_or_none known.link))) (body_of m)
-failed_kept s HeaderBad = None
-failed_kept s DataBad = None
+-- and when it is kept; they ask this rule on partners
+module _ (partners : PartnerRule) where
+  abbrev pub failed_at_partner : WireLinks → LinkTag → Carried → Option FailedCheck
+  failed_at_partner links tag packet = option_map failed.LinkArrival (refusal_in (arrives.asked_arrival partners links packet tag))
+
+  abbrev pub failed_kept : WireLayers → ArrivalValue LayersTag → Option FailedCheck
+  failed_kept s (arriving.Sound m known) = failed_packet (failed_at_partner s.links (tag_or_none known.link)) (body_of m)
+  failed_kept s HeaderBad = None
+  failed_kept s DataBad = None
+
+-- the station asks this rule on periods
+abbrev pub failed_arrival_by : PeriodRule → PartnerRule → WireLayers → ArrivalValue LayersTag → Fate → Option FailedCheck
+failed_arrival_by periods partners s arrival fate =
+    or_next (option_map failed.StationArrival (of_station.failed_arrival periods s.station (to_wire_station arrival) (is_kept fate)))
+    (if is_met fate then failed_kept partners s arrival else None)
 
 abbrev pub failed_arrival : WireLayers → ArrivalValue LayersTag → Fate → Option FailedCheck
-failed_arrival s arrival fate =
-    or_next (option_map failed.StationArrival (of_station.failed_arrival of_period s.station (to_wire_station arrival) (is_kept fate)))
-    (if is_met fate then failed_kept s arrival else None)
+failed_arrival s arrival fate = failed_arrival_by of_period of_partner s arrival fate
 
 abbrev pub failed_start : State → Option StationRefusal → Option FailedCheck
 failed_start state None = None
@@ -122,36 +133,66 @@ module _ (queues : Queues) where
   failed_user s user.Start = failed_start s.station.variables.state (user_refusal s.station.variables.state Start)
   failed_user s event = failed_at_links s (link_event event)
 
-  -- ---- a record
+-- ---- a node
 
+-- The first check that a message, an arrival and an event does not pass at a node, whatever it has on top of its station
+pub record NodeChecks : Type 0 where
+  pub user : WireLayers → Event → Option FailedCheck
+  pub sends : WireLayers → MessageValue → Option FailedCheck
+  pub arrives : WireLayers → ArrivalValue LayersTag → Fate → Option FailedCheck
+
+-- of both layers
+abbrev pub layers_checks : PeriodRule → Queues → NodeChecks
+layers_checks rule queues = record { user = failed_user queues; sends = failed_message queues; arrives = failed_arrival_by rule of_partner }
+
+-- of a station alone: what the links' user does is not judged
+abbrev pub failed_at_station : WireLayers → Event → Option FailedCheck
+failed_at_station s user.Start = failed_start s.station.variables.state (user_refusal s.station.variables.state Start)
+failed_at_station s event = None
+
+abbrev pub station_checks : PeriodRule → NodeChecks
+station_checks rule = record {
+  user = failed_at_station;
+  sends = λ (s : WireLayers) (m : MessageValue). option_map failed.StationSending (of_station.failed_sending s.station m);
+  arrives = λ (s : WireLayers) (arrival : ArrivalValue LayersTag) (fate : Fate).
+      option_map failed.StationArrival (of_station.failed_arrival rule s.station (to_wire_station arrival) (is_kept fate));
+}
+
+-- ---- a record
+
+module _ (node : NodeChecks) where
   abbrev pub failed_sent : WireLayers → ReadingValue → Option FailedCheck
-  failed_sent s (Sound m) = failed_message queues s m
+  failed_sent s (Sound m) = node.sends s m
   failed_sent s read.HeaderBad = Some (failed.Message not_sound.HeaderBad)
   failed_sent s read.DataBad = Some (failed.Message not_sound.DataBad)
   failed_sent s (Malformed departure) = Some (failed.Message (not_sound.Malformed departure))
 
-abbrev pub failed_noise : WireLayers → Option (ArrivalValue LayersTag) → Option FailedCheck
-failed_noise s None = Some failed.Noise
-failed_noise s (Some arrival) = failed_arrival s arrival NotKept
+  abbrev pub failed_noise : WireLayers → Option (ArrivalValue LayersTag) → Option FailedCheck
+  failed_noise s None = Some failed.Noise
+  failed_noise s (Some arrival) = node.arrives s arrival NotKept
 
-abbrev pub failed_coming : WireLayers → (hint : ℕ) → Fate → Option (ArrivalValue LayersTag) → Option FailedCheck
-failed_coming s hint fate None = Some (failed.Undetected hint)
-failed_coming s hint fate (Some arrival) = failed_arrival s arrival fate
+  abbrev pub failed_coming : WireLayers → (hint : ℕ) → Fate → Option (ArrivalValue LayersTag) → Option FailedCheck
+  failed_coming s hint fate None = Some (failed.Undetected hint)
+  failed_coming s hint fate (Some arrival) = node.arrives s arrival fate
 
--- a record whose unit is not sent yet waits
-abbrev pub failed_receipt : WireLayers → (hint : ℕ) → Fate → List ℕ → Option WireLayersUnit → Option FailedCheck
-failed_receipt s hint fate bytes None = None
-failed_receipt s hint fate bytes (Some unit) = failed_coming s hint fate (coming unit bytes)
+  -- a record whose unit is not sent yet waits
+  abbrev pub failed_receipt : WireLayers → (hint : ℕ) → Fate → List ℕ → Option WireLayersUnit → Option FailedCheck
+  failed_receipt s hint fate bytes None = None
+  failed_receipt s hint fate bytes (Some unit) = failed_coming s hint fate (coming unit bytes)
 
--- of a node at this front, to which the line leads that holds these units from there on
-abbrev pub failed_record : Queues → WireLayers → (front : ℕ) → List WireLayersUnit → Record → Option FailedCheck
-failed_record queues s front units (Sent bytes) = failed_sent queues s (reading bytes)
-failed_record queues s front units (Received hint fate bytes) =
-    if nat_lt hint front
-    then Some (failed.HintOrder hint front)
-    else failed_receipt s hint fate bytes (slice_get units (hint - front))
-failed_record queues s front units (Noise bytes) = failed_noise s (damage (reading bytes))
-failed_record queues s front units (User event) = failed_user queues s event
+  -- at this front, to which the line leads that holds these units from there on
+  abbrev pub failed_record : WireLayers → (front : ℕ) → List WireLayersUnit → Record → Option FailedCheck
+  failed_record s front units (Sent bytes) = failed_sent s (reading bytes)
+  failed_record s front units (Received hint fate bytes) =
+      if nat_lt hint front
+      then Some (failed.HintOrder hint front)
+      else failed_receipt s hint fate bytes (slice_get units (hint - front))
+  failed_record s front units (Noise bytes) = failed_noise s (damage (reading bytes))
+  failed_record s front units (User event) = node.user s event
+
+  abbrev pub failed_by : WireLayers → (front : ℕ) → List WireLayersUnit → Option Record → Option FailedCheck
+  failed_by s front units None = None
+  failed_by s front units (Some r) = failed_record s front units r
 
 -- the refusal that goes with each
 abbrev pub cause_of : FailedCheck → Cause

@@ -1,7 +1,7 @@
 -- Which check the refused record does not pass, with what is seen there and what is allowed: read off that record and both ends where the judge
 -- stops, or off one end alone. What each check sees and allows has a row in `FailedCheck`, in `Failed` of `ddcmp_station` and in `FailedSending`,
 -- `FailedArrival` and `FailedEvent` of `nsp_link`.
-use Rattle.std.specs.Prelude.{◌≡◌, ℕ, ◌⊎◌, option_map, IfSome, Option, Some, None}
+use Rattle.std.specs.Prelude.{◌≡◌, ℕ, ◌⊎◌, option_map, Option, Some, None}
 use Rattle.std.specs.Prelude.{List, [], ◌∷◌}
 use Rattle.wire_base.specs.Side.{other_side}
 use Rattle.wire_base.specs.declared.side.Side.{Side}
@@ -10,8 +10,11 @@ use Rattle.capture_record.specs.declared.record.Record.TheVariants.{Sent, Receiv
 use Rattle.ddcmp_msg.specs.Message.{Data}
 use Rattle.ddcmp_msg.specs.Reading.{ReadingValue, reading, Sound, Malformed}
 use Rattle.ddcmp_station.specs.declared.failed.FailedArrival.TheVariants.{Keep}
-use Rattle.dna_links.specs.declared.queue.Queues.{Queues}
+use Rattle.dna_node.specs.declared.finding.Cause.{Cause}
+use Rattle.dna_node.specs.declared.finding.Cause.TheVariants.{Step, NoSuchUnit, NoOrder}
 use Rattle.dna_node.specs.WireLayers.{WireLayers, WireLayersUnit}
+use Rattle.pair_judge.specs.declared.end_verdict.EndVerdict.{EndVerdict}
+use Rattle.pair_judge.specs.declared.end_verdict.EndVerdict.TheVariants as verdicts
 use Rattle.pair_judge.specs.declared.failed_check.Awaited.{Awaited}
 use Rattle.pair_judge.specs.declared.failed_check.FailedCheck.{FailedCheck}
 use Rattle.pair_judge.specs.declared.failed_check.FailedCheck.TheVariants as failed
@@ -20,8 +23,9 @@ use Rattle.pair_judge.specs.declared.reason.Reason.{Reason}
 use Rattle.pair_judge.specs.declared.verdict.Verdict.{Verdict}
 use Rattle.pair_judge.specs.declared.verdict.Verdict.TheVariants.{Accepted, Refused}
 use Rattle.pair_judge.specs.Ends.{ShownEnd, ShownEnds, to_side}
-use Rattle.pair_judge.specs.FailedCheck.{failed_packet, failed_record, reason_of_failed}
+use Rattle.pair_judge.specs.FailedCheck.{NodeChecks, cause_of, failed_by, failed_packet, failed_record, reason_of_failed}
 use Rattle.pair_judge.specs.Finding.{of_side}
+use Rattle.pair_judge.specs.Reason.{reason_of}
 
 -- ---- the first one of a reason
 
@@ -44,8 +48,8 @@ hint_of (Some (User event)) = None
 hint_of None = None
 
 -- the receipt ahead: the unit that its hint names, and how many the other side sent
-abbrev pub awaited : (own other : ShownEnd) → Option Awaited
-awaited own other = option_map (λ (hint : ℕ). record { hint = hint; sent = other.sent }) (hint_of own.ahead)
+abbrev pub awaited : (ahead : Option Record) → (sent : ℕ) → Option Awaited
+awaited ahead sent = option_map (λ (hint : ℕ). record { hint = hint; sent = sent }) (hint_of ahead)
 
 -- both sides wait
 abbrev pub both_await : (own other : Option Awaited) → Option FailedCheck
@@ -53,39 +57,31 @@ both_await (Some own) (Some other) = Some (failed.NoOrder own other)
 both_await (Some own) None = None
 both_await None other = None
 
-module _ (queues : Queues) where
-  -- The checks of a record in their order, where these units of the other side may still come
-  abbrev pub failed_ahead : ShownEnd → List WireLayersUnit → Option Record → Option FailedCheck
-  failed_ahead end units None = None
-  failed_ahead end units (Some r) = failed_record queues end.layers end.front units r
+module _ (checks : NodeChecks) where
+  -- The check of a record that ends a run for this cause, where these units of the other side may still come: of one that is refused, the first that
+  -- it does not pass; of one that waits, the unit for which it does, and where both sides wait also that for which the other side does
+  abbrev pub failed_for : Cause → (own other : ShownEnd) → List WireLayersUnit → Option FailedCheck
+  failed_for (Step refusal) own other units = failed_by checks own.layers own.front units own.ahead
+  failed_for NoSuchUnit own other units = option_map failed.NoSuchUnit (awaited own.ahead other.sent)
+  failed_for NoOrder own other units = both_await (awaited own.ahead other.sent) (awaited other.ahead own.sent)
 
-  abbrev pub checks_by : (own other : ShownEnd) → List WireLayersUnit → List (Option FailedCheck)
-  checks_by own other units =
-      failed_ahead own units own.ahead
-      ∷ option_map failed.NoSuchUnit (awaited own other)
-      ∷ both_await (awaited own other) (awaited other own)
-      ∷ []
+  -- one is named, and its reason is that of the verdict
+  pub record IsNamedFor (reason : Reason) (own other : ShownEnd) (units : List WireLayersUnit) : Type 0 where
+    pub cause : Cause
+    pub check : FailedCheck
+    pub named : own.failed ≡ Some check
+    pub is : failed_for cause own other units ≡ Some check
+    pub caused : cause_of check ≡ cause
+    pub is_reason : reason ≡ reason_of cause
 
-  -- all that may fail at a side
-  abbrev pub checks_at : Side → ShownEnds → List (Option FailedCheck)
-  checks_at side ends = checks_by (of_side side ends.a ends.b) (of_side (other_side side) ends.a ends.b) (to_side side ends)
+  -- at the side that the verdict names, and none where it names none
+  abbrev pub IsNamedBy : ShownEnds → Verdict → Type 0
+  IsNamedBy ends (Accepted summary) = Unit {0}
+  IsNamedBy ends (Refused side place reason) =
+      IsNamedFor reason (of_side side ends.a ends.b) (of_side (other_side side) ends.a ends.b) (to_side side ends)
 
-  -- What is named of a verdict: of a refusal its side, and the first of these checks that is of its reason
-  abbrev pub IsNamedBy : ShownEnds → Verdict → Option (Side × FailedCheck) → Type 0
-  IsNamedBy ends (Accepted summary) named = named ≡ None
-  IsNamedBy ends (Refused side place reason) named =
-      IfSome named (λ failed. failed.0 ≡ side) × IsFirstOf reason (checks_at side ends) (option_map (λ (failed : Side × FailedCheck). failed.1) named)
-
-  abbrev pub IsFailedIn : ShownEnds → Option (Side × FailedCheck) → Type 0
-  IsFailedIn ends named = IsNamedBy ends ends.verdict named
-
-  -- where a record is refused, one of these checks is of the reason
-  abbrev pub NamesOneBy : ShownEnds → Verdict → Type 0
-  NamesOneBy ends (Accepted summary) = Unit {0}
-  NamesOneBy ends (Refused side place reason) = ¬ IsFirstOf reason (checks_at side ends) None
-
-  abbrev pub NamesOne : ShownEnds → Type 0
-  NamesOne ends = NamesOneBy ends ends.verdict
+  abbrev pub IsNamedIn : ShownEnds → Type 0
+  IsNamedIn ends = IsNamedBy ends ends.verdict
 
 -- ---- of one end alone
 
@@ -96,13 +92,16 @@ failed_bytes (Sound (Data flags resp num body)) = failed_packet (λ packet. None
 failed_bytes read = None
 
 -- Of a receipt its hint, a packet that is not taken, and its bytes; of another record those of a pair, for which nothing is asked of the line
-abbrev pub checks_alone : Queues → WireLayers → (front : ℕ) → Option Record → List (Option FailedCheck)
-checks_alone queues s front (Some (Received hint fate bytes)) =
-    Some (failed.HintOrder hint front) ∷ Some (failed.StationArrival Keep) ∷ failed_bytes (reading bytes) ∷ []
-checks_alone queues s front (Some (Sent bytes)) = failed_record queues s front [] (Sent bytes) ∷ []
-checks_alone queues s front (Some (Noise bytes)) = failed_record queues s front [] (Noise bytes) ∷ []
-checks_alone queues s front (Some (User event)) = failed_record queues s front [] (User event) ∷ []
-checks_alone queues s front None = []
+module _ (checks : NodeChecks) where
+  abbrev pub checks_alone : WireLayers → (front : ℕ) → Option Record → List (Option FailedCheck)
+  checks_alone s front (Some (Received hint fate bytes)) =
+      Some (failed.HintOrder hint front) ∷ Some (failed.StationArrival Keep) ∷ failed_bytes (reading bytes) ∷ []
+  checks_alone s front (Some (Sent bytes)) = failed_record checks s front [] (Sent bytes) ∷ []
+  checks_alone s front (Some (Noise bytes)) = failed_record checks s front [] (Noise bytes) ∷ []
+  checks_alone s front (Some (User event)) = failed_record checks s front [] (User event) ∷ []
+  checks_alone s front None = []
 
-abbrev pub IsFailedAlone : Queues → ShownEnd → Reason → Option FailedCheck → Type 0
-IsFailedAlone queues end reason named = IsFirstOf reason (checks_alone queues end.layers end.front end.ahead) named
+  -- the first of the verdict's reason is named
+  abbrev pub IsNamedAlone : ShownEnd → EndVerdict → Type 0
+  IsNamedAlone end (verdicts.Passed summary) = Unit {0}
+  IsNamedAlone end (verdicts.Refused place accused reason) = IsFirstOf reason (checks_alone end.layers end.front end.ahead) end.failed

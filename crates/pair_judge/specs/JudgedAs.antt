@@ -1,7 +1,7 @@
 -- What a pair, or one end, is judged as, by what is asked; and what besides is claimed of some of that.
 use Rattle.std.specs.Prelude.{ℕ, Bool, true, false, List, Option}
-use Rattle.dna_links.specs.declared.queue.Queues.{Queues}
 use Rattle.dna_links.specs.declared.queue.Queues.TheVariants.{Without, With}
+use Rattle.dna_station.specs.PeriodRule.{PeriodRule, of_any_period, of_period}
 use Rattle.dna_node.specs.Kind.{NodeKind, both_layers, layers_kind, stations_alone}
 use Rattle.pair_judge.specs.declared.judged_as.JudgedAs.{JudgedAs}
 use Rattle.pair_judge.specs.declared.judged_as.Layers.{Layers}
@@ -10,7 +10,7 @@ use Rattle.pair_judge.specs.declared.verdict.Verdict.{Verdict}
 use Rattle.pair_judge.specs.AnyPeriod.{AsksNoPeriod, layers_of_any_period, stations_of_any_period}
 use Rattle.pair_judge.specs.EndKind.{EndKind, layers_alone, layers_alone_by, station_alone}
 use Rattle.pair_judge.specs.Ends.{ShownEnds, StandsFor}
-use Rattle.pair_judge.specs.FailedIn.{NamesOne}
+use Rattle.pair_judge.specs.FailedCheck.{NodeChecks, layers_checks, station_checks}
 
 -- ---- the nodes
 
@@ -39,11 +39,18 @@ end_of Both = layers_alone
 end_of Queued = layers_alone_by With
 end_of Station = station_alone
 
--- whether the nodes have queues
-abbrev pub queues_of : Layers → Queues
-queues_of Both = Without
-queues_of Queued = With
-queues_of Station = Without
+-- their checks
+abbrev pub checks_of : Layers → PeriodRule → NodeChecks
+checks_of Both rule = layers_checks rule Without
+checks_of Queued rule = layers_checks rule With
+checks_of Station rule = station_checks rule
+
+abbrev pub checks_by : Layers → (any_period : Bool) → NodeChecks
+checks_by layers true = checks_of layers of_any_period
+checks_by layers false = checks_of layers of_period
+
+abbrev pub checks_asked : JudgedAs → NodeChecks
+checks_asked asked = checks_by asked.layers asked.any_period
 
 -- ---- what is claimed besides, of both ends that are shown
 
@@ -53,26 +60,13 @@ StandsOver Both text_a text_b ends = StandsFor text_a text_b ends ends.verdict
 StandsOver Queued text_a text_b ends = Unit {0}
 StandsOver Station text_a text_b ends = Unit {0}
 
--- one of their checks is of the reason: of both layers
-abbrev pub NamesOver : Layers → ShownEnds → Type 0
-NamesOver Both ends = NamesOne Without ends
-NamesOver Queued ends = NamesOne With ends
-NamesOver Station ends = Unit {0}
-
--- both where periods are asked
+-- where periods are asked
 abbrev pub StandsBy : Layers → (any_period : Bool) → (text_a text_b : Option (List ℕ)) → ShownEnds → Type 0
 StandsBy layers true text_a text_b ends = Unit {0}
 StandsBy layers false text_a text_b ends = StandsOver layers text_a text_b ends
 
-abbrev pub NamesBy : Layers → (any_period : Bool) → ShownEnds → Type 0
-NamesBy layers true ends = Unit {0}
-NamesBy layers false ends = NamesOver layers ends
-
 abbrev pub StandsAsked : JudgedAs → (text_a text_b : Option (List ℕ)) → ShownEnds → Type 0
 StandsAsked asked text_a text_b ends = StandsBy asked.layers asked.any_period text_a text_b ends
-
-abbrev pub NamesAsked : JudgedAs → ShownEnds → Type 0
-NamesAsked asked ends = NamesBy asked.layers asked.any_period ends
 
 -- where periods are not asked, no record is refused for 13
 abbrev pub AsksPeriods : (any_period : Bool) → Verdict → Type 0

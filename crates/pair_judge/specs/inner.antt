@@ -1,6 +1,7 @@
 -- What contracts of private functions speak of, with what the toolchain wants of a type or a test; no public claim rests on it
 pub mod Wire
 pub mod Tops
+pub mod Named
 pub mod Packets
 pub mod Lent
 pub mod Unit

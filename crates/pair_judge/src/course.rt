@@ -11,11 +11,12 @@ ghost use Rattle.capture.specs.declared.fault.CaptureFault.TheVariants as Captur
 ghost use Rattle.wire_base.specs.Tally.{tally_faults, tally_lent};
 ghost use Rattle.pair_judge.specs.Order.{TellsNext, made_by};
 ghost use Rattle.pair_judge.specs.Summary.{HasRoom};
-ghost use Rattle.pair_judge.specs.inner.Course.{AdvanceIs, IfNotMade, IsFaultOf, IsRead, IsReadyFor, MayRead, NextIs, along};
+ghost use Rattle.pair_judge.specs.inner.Course.{AdvanceIs, IfNotMade, IfRefused, IsFaultOf, IsRead, IsReadyFor, MayRead, NamesAhead, NextIs, along};
 ghost use Rattle.pair_judge.specs.inner.Making.{move};
 ghost use Rattle.pair_judge.specs.inner.Reached.{IsHeldUp};
 
 use crate::end::End;
+use crate::failed_check::FailedCheck;
 use crate::line::Line;
 use crate::made_entry::MadeEntry;
 use crate::making::{Made, make};
@@ -67,7 +68,7 @@ impl Course {
     ///
     /// `Departs`, `Read`: the next record can't be read. `OutOfMemory`: there is no room for the message of its event, for the unit,
     /// the packet or the piece that it sends, for the link or the piece that it keeps, or for what the observer keeps of it. The course and
-    /// the observer have no use after any of them.
+    /// the observer have no use after any of them. Where the record can't be made, `failed` has the check that it does not pass.
     #[inline(always)]
     pub fn advance<T: Top, O: Observer, R: Read>(
         &mut self,
@@ -75,6 +76,7 @@ impl Course {
         reader: &mut Tally<R>,
         side: Side,
         observer: &mut O,
+        failed: &mut Option<FailedCheck>,
     ) -> Result<Advance, CaptureFault>
         requires may_read { MayRead self.old }
         requires room { HasRoom self.old.end }
@@ -84,6 +86,7 @@ impl Course {
             (move self.old.end self.new.end incoming.old incoming.new)
             (along text self.new (to_come self.new.capture.unread (R.remaining (tally_lent reader.new))) made)) }
         ensures same_observer { IfOk result (λ advance. IfNotMade advance (observer.new ≡ observer.old)) }
+        ensures named { IfOk result (λ advance. IfRefused advance (NamesAhead T.top self.new incoming.new failed.new)) }
         ensures may_read { IfOk result (λ _. MayRead self.new) }
         ensures head { self.new.end.head ≡ self.old.end.head }
         ensures fault { IfErr result (λ fault. (text : Option (List ℕ)) (made : List Record) →
@@ -93,7 +96,7 @@ impl Course {
         ensures reads { CountsReads (is_failed_read result) (tally_faults reader.old) (tally_faults reader.new) }
     {
         match self.next(reader) {
-            Ok(Some(entry)) => self.make::<T, O>(incoming, entry, side, observer),
+            Ok(Some(entry)) => self.make::<T, O>(incoming, entry, side, observer, failed),
             Ok(None) => Ok(Advance::Ended),
             Err(fault) => Err(fault),
         }
@@ -161,6 +164,7 @@ impl Course {
         entry: Entry,
         side: Side,
         observer: &mut O,
+        failed: &mut Option<FailedCheck>,
     ) -> Result<Advance, CaptureFault>
         requires unread { self.old.ahead ≡ Ahead.Unread }
         requires reading { self.old.capture.phase ≡ Phase.Reading }
@@ -171,13 +175,21 @@ impl Course {
             AdvanceIs T.top (λ r. TellsNext O.told observer.old observer.new (made_by side r)) advance
             (move self.old.end self.new.end incoming.old incoming.new) (along text self.new come made)) }
         ensures same_observer { IfOk result (λ advance. IfNotMade advance (observer.new ≡ observer.old)) }
+        ensures named { IfOk result (λ advance. IfRefused advance (NamesAhead T.top self.new incoming.new failed.new)) }
         ensures may_read { IfOk result (λ _. MayRead self.new) }
         ensures capture { self.new.capture ≡ self.old.capture }
         ensures head { self.new.end.head ≡ self.old.end.head }
         ensures fault { IfErr result (λ fault. fault ≡ CaptureFault.OutOfMemory) }
     {
         let alloc = self.capture.alloc();
-        match make::<T>(alloc, &mut self.end, incoming, entry, self.capture.bytes()) {
+        match make::<T>(
+            alloc,
+            &mut self.end,
+            incoming,
+            entry,
+            self.capture.bytes(),
+            failed,
+        ) {
             Ok(Made::Done { sound }) => {
                 let next = MadeEntry {
                     side,

@@ -10,11 +10,12 @@ ghost use Rattle.dna_station.specs.WireStation.{load};
 ghost use Rattle.pair_judge.specs.Counting.{delivers};
 ghost use Rattle.pair_judge.specs.Events.{IsOfOneLink, event_of_station, event_of_links};
 ghost use Rattle.pair_judge.specs.Summary.{HasRoomFor};
-ghost use Rattle.pair_judge.specs.inner.Entering.{IsEntered, IsNotEntered};
+ghost use Rattle.pair_judge.specs.inner.Entering.{IsEntered, IsNotEntered, failed_event};
 ghost use Rattle.pair_judge.specs.inner.Making.{IsCarriedEntry, IsEvent};
 ghost use Rattle.pair_judge.specs.inner.Memory.{IfNoMemory, MayTakeMemory};
 ghost use Rattle.pair_judge.specs.inner.Steps.{IfRefused};
 
+use crate::failed_check::FailedCheck;
 use crate::layers::SideLayers;
 use crate::step_fault::StepFault;
 use crate::summary::SideSummary;
@@ -25,48 +26,50 @@ use nsp_link::LinkEvent;
 
 /// The user does what this entry and these bytes say, which is counted.
 ///
-/// `Refused`: no node may do it. Then nothing changed. `OutOfMemory`: there is no memory for what the links keep of it.
+/// `Refused`: no node may do it. Then nothing changed, and `failed` has the check. `OutOfMemory`: there is no memory for what the links keep of it.
 #[inline(always)]
 pub fn enter<T: Top>(
     layers: &mut SideLayers,
     counts: &mut SideSummary,
     entry: Entry,
     bytes: &[u8],
+    failed: &mut Option<FailedCheck>,
 ) -> Result<(), StepFault>
     requires event { IsEvent entry }
     requires room { HasRoomFor counts.old }
     requires load { load layers.old.station < 2 ^ 63 }
     ensures ok { OnOk result (IsEntered T.top layers.old layers.new counts.old counts.new (record_with entry bytes.now)) }
     ensures refused { IfErr result (IfRefused (IsNotEntered T.top layers.old (record_with entry bytes.now))) }
+    ensures named { IfErr result (IfRefused (λ _. failed.new ≡ failed_event T.top layers.old (record_with entry bytes.now))) }
     ensures still { IfErr result (IfRefused (λ _. layers.new ≡ layers.old)) }
     ensures same_counts { OnErr result (counts.new ≡ counts.old) }
     ensures memory { IfErr result (IfNoMemory (MayTakeMemory T.top.machine layers.old (record_with entry bytes.now))) }
 {
     match entry {
-        Entry::Start => at_station::<T>(layers, counts, StationEvent::Start),
-        Entry::Halt => at_station::<T>(layers, counts, StationEvent::Halt),
-        Entry::Open { link } => at_links::<T>(layers, counts, LinkEvent::Open { link }),
+        Entry::Start => at_station::<T>(layers, counts, StationEvent::Start, failed),
+        Entry::Halt => at_station::<T>(layers, counts, StationEvent::Halt, failed),
+        Entry::Open { link } => at_links::<T>(layers, counts, LinkEvent::Open { link }, failed),
         Entry::Accept { partner, link } => {
-            at_links::<T>(layers, counts, LinkEvent::Accept { partner, link })
+            at_links::<T>(layers, counts, LinkEvent::Accept { partner, link }, failed)
         }
         Entry::Reject { partner, link } => {
-            at_links::<T>(layers, counts, LinkEvent::Reject { partner, link })
+            at_links::<T>(layers, counts, LinkEvent::Reject { partner, link }, failed)
         }
         Entry::In { link } => {
             let message = bytes;
-            at_links::<T>(layers, counts, LinkEvent::In { link, message })
+            at_links::<T>(layers, counts, LinkEvent::In { link, message }, failed)
         }
         Entry::Up { link } => {
             let message = bytes;
-            at_links::<T>(layers, counts, LinkEvent::Up { link, message })
+            at_links::<T>(layers, counts, LinkEvent::Up { link, message }, failed)
         }
-        Entry::Close { link } => at_links::<T>(layers, counts, LinkEvent::Close { link }),
+        Entry::Close { link } => at_links::<T>(layers, counts, LinkEvent::Close { link }, failed),
         Entry::Boot => {
             boot::<T>(layers, counts);
             Ok(())
         }
-        Entry::Abort { link } => at_links::<T>(layers, counts, LinkEvent::Abort { link }),
-        Entry::Composed => composed::<T>(layers, counts, bytes),
+        Entry::Abort { link } => at_links::<T>(layers, counts, LinkEvent::Abort { link }, failed),
+        Entry::Composed => composed::<T>(layers, counts, bytes, failed),
         Entry::Interrupt { .. } | Entry::Interrupted { .. } => {
             carried::<T>(counts, entry, bytes);
             Ok(())
@@ -81,16 +84,18 @@ fn at_station<T: Top>(
     layers: &mut SideLayers,
     counts: &mut SideSummary,
     event: StationEvent,
+    failed: &mut Option<FailedCheck>,
 ) -> Result<(), StepFault>
     requires room { HasRoomFor counts.old }
     requires load { load layers.old.station < 2 ^ 63 }
     ensures ok { OnOk result (IsEntered T.top layers.old layers.new counts.old counts.new (User (event_of_station event))) }
     ensures refused { IfErr result (IfRefused (IsNotEntered T.top layers.old (User (event_of_station event)))) }
+    ensures named { IfErr result (IfRefused (λ _. failed.new ≡ T.top.checks.user layers.old (event_of_station event))) }
     ensures still { IfErr result (IfRefused (λ _. layers.new ≡ layers.old)) }
     ensures same_counts { OnErr result (counts.new ≡ counts.old) }
     ensures memory { IfErr result (IfNoMemory ⊥) }
 {
-    match T::start_or_halt(layers, event) {
+    match T::start_or_halt(layers, event, failed) {
         Ok(()) => {
             *counts = counts.with_station_event(event);
             Ok(())
@@ -105,17 +110,19 @@ fn at_links<T: Top>(
     layers: &mut SideLayers,
     counts: &mut SideSummary,
     event: LinkEvent,
+    failed: &mut Option<FailedCheck>,
 ) -> Result<(), StepFault>
     requires one { IsOfOneLink (view event) }
     requires room { HasRoomFor counts.old }
     ensures ok { OnOk result (IsEntered T.top layers.old layers.new counts.old counts.new (User (event_of_links (view event.entry)))) }
     ensures refused { IfErr result (IfRefused (IsNotEntered T.top layers.old (User (event_of_links (view event.entry))))) }
+    ensures named { IfErr result (IfRefused (λ _. failed.new ≡ T.top.checks.user layers.old (event_of_links (view event.entry)))) }
     ensures still { IfErr result (IfRefused (λ _. layers.new ≡ layers.old)) }
     ensures same_counts { OnErr result (counts.new ≡ counts.old) }
     ensures memory { IfErr result (IfNoMemory (MayTakeMemory T.top.machine layers.old (User (event_of_links (view event.entry))))) }
 {
     let delivers = is_delivery(&event);
-    match T::at_links(layers, event) {
+    match T::at_links(layers, event, failed) {
         Ok(()) => {
             *counts = counts.with_link_event(delivers);
             Ok(())
@@ -141,14 +148,16 @@ fn composed<T: Top>(
     layers: &mut SideLayers,
     counts: &mut SideSummary,
     packet: &[u8],
+    failed: &mut Option<FailedCheck>,
 ) -> Result<(), StepFault>
     requires { HasRoomFor counts.old }
     ensures ok { OnOk result (IsEntered T.top layers.old layers.new counts.old counts.new (User (Event.Composed packet.now))) }
     ensures refused { IfErr result (IfRefused (IsNotEntered T.top layers.old (User (Event.Composed packet.now)))) }
+    ensures named { IfErr result (IfRefused (λ _. failed.new ≡ T.top.checks.user layers.old (Event.Composed packet.now))) }
     ensures still { IfErr result (IfRefused (λ _. layers.new ≡ layers.old)) }
     ensures same_counts { OnErr result (counts.new ≡ counts.old) }
 {
-    match T::composed(layers, packet) {
+    match T::composed(layers, packet, failed) {
         Ok(()) => {
             *counts = counts.with_link_event(false);
             Ok(())

@@ -1,8 +1,9 @@
 //! A verdict with both ends as they are where it is given.
 
-ghost use Rattle.std.specs.Prelude.{◌≡◌, None, Some, IfSome, option_map, slice_get};
+ghost use Rattle.std.specs.Prelude.{◌≡◌, None, Some, IfSome, option_and_then, option_copied, option_map, slice_get};
 ghost use Rattle.capture_record.specs.Entries.{record_with};
 ghost use Rattle.nsp_link.specs.View as link;
+ghost use Rattle.nsp_link.specs.View.{rest_of};
 ghost use Rattle.pair_judge.specs.Finding.{of_side};
 ghost use Rattle.pair_judge.specs.inner.Ends.{ends_shown};
 
@@ -14,6 +15,7 @@ use crate::stopped::Stopped;
 use crate::verdict::Verdict;
 use capture_record::Entry;
 use ddcmp_station::StationView;
+use failing::check_at_side;
 use nsp_link::LinkView;
 use std::marker::Model;
 use wire_base::Side;
@@ -54,8 +56,10 @@ pub fn ends_with(verdict: Verdict, stopped: Stopped) -> JudgedEnds
 {
     let front_a = stopped.b.end.line.gone;
     let front_b = stopped.a.end.line.gone;
-    let (a, line_a) = SideEnd::of(stopped.a, front_a);
-    let (b, line_b) = SideEnd::of(stopped.b, front_b);
+    let failed_a = check_at_side(Side::A, &stopped);
+    let failed_b = check_at_side(Side::B, &stopped);
+    let (a, line_a) = SideEnd::of(stopped.a, front_a, failed_a);
+    let (b, line_b) = SideEnd::of(stopped.b, front_b, failed_b);
     JudgedEnds {
         verdict,
         a,
@@ -114,6 +118,17 @@ impl JudgedEnds {
         match side {
             Side::A => self.a.link(number),
             Side::B => self.b.link(number),
+        }
+    }
+
+    /// What is left of the message that the link of this side with this number sends: bytes with which its next new segment has to begin; `None`
+    /// where there is no such link, or all that was handed in is given (NSP 4.0, data segments). Takes no memory.
+    pub fn rest(&self, side: Side, number: usize) -> Option<&[u8]>
+        ensures { option_copied result ≡ option_and_then rest_of (slice_get (of_side side self.now.a self.now.b).links.links number) }
+    {
+        match side {
+            Side::A => self.a.rest(number),
+            Side::B => self.b.rest(number),
         }
     }
 

@@ -6,9 +6,10 @@ ghost use Rattle.wire_base.specs.Tally.{tally_faults, tally_lent};
 ghost use Rattle.wire_base.specs.declared.side.Side.{Side};
 ghost use Rattle.capture.specs.Faulty.{CountsReads};
 ghost use Rattle.capture.specs.Lines.{to_come};
-ghost use Rattle.pair_judge.specs.JudgedAs.{AsksPeriods, NamesAsked, StandsAsked, nodes_asked};
+ghost use Rattle.pair_judge.specs.JudgedAs.{AsksPeriods, StandsAsked, checks_asked, nodes_asked};
 ghost use Rattle.pair_judge.specs.Ends.{verdict_in};
 ghost use Rattle.pair_judge.specs.Faulty.{IsJudgeFault, is_failed_read_of};
+ghost use Rattle.pair_judge.specs.FailedIn.{IsNamedIn};
 ghost use Rattle.pair_judge.specs.Finding.{of_side};
 ghost use Rattle.pair_judge.specs.Judged.{IsAnswer};
 ghost use Rattle.pair_judge.specs.Watched.{WasTold, only};
@@ -95,8 +96,8 @@ impl<O: Observer> Watched<O> {
 /// before; at a fault it is dropped.
 ///
 /// Both ends are given as they are where the verdict is. They show which records are ahead, and how many were made. Where the verdict is `Refused`,
-/// the named record is the one ahead of its side, and where periods are asked `JudgedEnds::failed` names a check of this reason that it does not
-/// pass. Of nodes without queues (`Layers::Both`) besides: all records of the named side before the named one, and some of the other side, lead two
+/// the named record is the one ahead of its side, and the end of this side has the check that it does not pass (`SideEnd::failed`), the reason of
+/// which is that of the verdict. Of nodes without queues (`Layers::Both`) besides: all records of the named side before the named one, and some of the other side, lead two
 /// nodes to a world in which the named record is refused for this reason, or waits; and both ends show this world.
 pub fn judge<O: Observer, R: Read, S: Read>(
     alloc: Global,
@@ -110,7 +111,7 @@ pub fn judge<O: Observer, R: Read, S: Read>(
         (verdict_in (only result (λ watched. watched.ends))) }
     ensures stands { IfOk result (λ watched.
         StandsAsked asked (R.remaining (tally_lent a.old)) (S.remaining (tally_lent b.old)) watched.ends) }
-    ensures fails { IfOk result (λ watched. NamesAsked asked watched.ends) }
+    ensures fails { IfOk result (λ watched. IsNamedIn (checks_asked asked) watched.ends) }
     ensures unasked { IfOk result (λ watched. AsksPeriods asked.any_period watched.ends.verdict) }
     ensures told { IfOk result (λ watched.
         WasTold (nodes_asked asked) (R.remaining (tally_lent a.old)) (S.remaining (tally_lent b.old)) watched.ends (O.told watched.observer)) }
@@ -155,12 +156,14 @@ fn decide<T: Top, O: Observer, R: Read, S: Read>(
         (verdict_in (only result (λ watched. watched.ends))) }
     ensures shown { IfOk result (λ watched.
         AreShownIn T.top (R.remaining (tally_lent a.old)) (S.remaining (tally_lent b.old)) (O.told watched.observer) watched.ends) }
+    ensures fails { IfOk result (λ watched. IsNamedIn T.top.checks watched.ends) }
     ensures told { IfOk result (λ watched.
         WasTold T.top.kind (R.remaining (tally_lent a.old)) (S.remaining (tally_lent b.old)) watched.ends (O.told watched.observer)) }
     ensures reads_a { CountsReads (is_failed_read_of Side.A result) (tally_faults a.old) (tally_faults a.new) }
     ensures reads_b { CountsReads (is_failed_read_of Side.B result) (tally_faults b.old) (tally_faults b.new) }
 {
     whole_text();
+    T::names();
     T::shows();
     T::delivers();
     match stop::<T, O, R, S>(alloc, a, b, observer) {
@@ -226,6 +229,7 @@ fn stop<T: Top, O: Observer, R: Read, S: Read>(
     let mut way = Way {
         observer,
         ending: Ok(Finding::Accepted),
+        failed: None,
     };
     for _ in 0..MOST_TURNS {
         if turn::<T, O, R, S>(&mut course_a, &mut course_b, a, b, &mut way) {
@@ -235,6 +239,7 @@ fn stop<T: Top, O: Observer, R: Read, S: Read>(
             Ok(finding) => {
                 let stopped = Stopped {
                     finding,
+                    failed: way.failed,
                     a: course_a,
                     b: course_b,
                 };

@@ -4,18 +4,24 @@ ghost use Rattle.std.specs.Prelude.{◌≢◌, [], IfOk, IfErr};
 ghost use Rattle.wire_base.specs.Tally.{tally_faults, tally_lent};
 ghost use Rattle.capture.specs.declared.fault.CaptureFault.TheVariants as CaptureFault;
 ghost use Rattle.capture.specs.Faulty.{CountsReads, is_failed_read};
-ghost use Rattle.pair_judge.specs.JudgedAs.{end_of};
+ghost use Rattle.dna_station.specs.PeriodRule.{of_period};
+ghost use Rattle.pair_judge.specs.FailedIn.{IsNamedAlone};
+ghost use Rattle.pair_judge.specs.JudgedAs.{checks_of, end_of};
+ghost use Rattle.pair_judge.specs.inner.EndStopped.{StopsThere, shown_lone};
 ghost use Rattle.pair_judge.specs.EndJudged.{IsJudgedAlone};
 ghost use Rattle.pair_judge.specs.EndShown.{StandsAlone};
 ghost use Rattle.pair_judge.specs.Watched.{only};
 
 mod stopping;
 
+use crate::course::Ahead;
 use crate::end_verdict::EndVerdict;
 use crate::judged_as::Layers;
+use crate::failed_check::FailedCheck;
 use crate::layers::{LinksOnTop, NothingOnTop};
 use crate::observer::Observer;
-use crate::side_end::SideEnd;
+use crate::side_end::{SideEnd, named_alone};
+use crate::stopped_end::StoppedEnd;
 use crate::top::Top;
 use capture::CaptureFault;
 use nsp_link::{WITH_QUEUES, WITHOUT_QUEUES};
@@ -56,7 +62,8 @@ impl<O: Observer> WatchedEnd<O> {
 ///
 /// The observer (`Nobody`, where only the verdict is wanted) is told of each record that is made, as one of side a. It was told of nothing before; at
 /// a fault it is dropped. The end is given as it is where the verdict is. Where that is `Refused`, the records before the named one lead the node of
-/// this end to a state in which it refuses the named one for this reason, and the end shows this state; the named record is the one ahead. Where it
+/// this end to a state in which it refuses the named one for this reason, and the end shows this state; the named record is the one ahead, and the
+/// end has the check that it does not pass (`SideEnd::failed`). Where it
 /// is `Passed`, none is ahead, and the end shows the state after all records. Of a station alone it shows no link: events of links count as made, but
 /// nothing begins by them.
 ///
@@ -76,6 +83,7 @@ pub fn judge_end<O: Observer, R: Read>(
     ensures judged { IsJudgedAlone (end_of layers) (R.remaining (tally_lent a.old)) (only result (λ watched. watched.verdict)) }
     ensures stands { IfOk result (λ watched.
         StandsAlone (end_of layers) (R.remaining (tally_lent a.old)) watched.end watched.verdict (O.told watched.observer)) }
+    ensures fails { IfOk result (λ watched. IsNamedAlone (checks_of layers of_period) watched.end watched.verdict) }
     ensures first { IfErr result (λ fault. fault ≢ CaptureFault.Failed) }
     ensures reads { CountsReads (is_failed_read result) (tally_faults a.old) (tally_faults a.new) }
 {
@@ -96,6 +104,7 @@ fn watch_end<T: Top, O: Observer, R: Read>(
     ensures judged { IsJudgedAlone T.top.end (R.remaining (tally_lent a.old)) (only result (λ watched. watched.verdict)) }
     ensures stands { IfOk result (λ watched.
         StandsAlone T.top.end (R.remaining (tally_lent a.old)) watched.end watched.verdict (O.told watched.observer)) }
+    ensures fails { IfOk result (λ watched. IsNamedAlone T.top.checks watched.end watched.verdict) }
     ensures first { IfErr result (λ fault. fault ≢ CaptureFault.Failed) }
     ensures reads { CountsReads (is_failed_read result) (tally_faults a.old) (tally_faults a.new) }
 {
@@ -103,7 +112,8 @@ fn watch_end<T: Top, O: Observer, R: Read>(
     match decide_end::<T, O, R>(alloc, a, observer) {
         Ok((stopped, observer)) => {
             let verdict = stopped.verdict;
-            let end = SideEnd::alone(stopped.capture, stopped.end, stopped.ahead);
+            let failed = named_at::<T>(&stopped);
+            let end = SideEnd::alone(stopped.capture, stopped.end, stopped.ahead, failed);
             Ok(WatchedEnd {
                 verdict,
                 end,
@@ -112,4 +122,29 @@ fn watch_end<T: Top, O: Observer, R: Read>(
         }
         Err(fault) => Err(fault),
     }
+}
+
+// The check that is named of the record ahead.
+fn named_at<T: Top>(stopped: &StoppedEnd) -> Option<FailedCheck>
+    requires { StopsThere T.top stopped.now stopped.now.verdict }
+    ensures { IsNamedAlone T.top.checks (shown_lone stopped.now.capture stopped.now.end stopped.now.ahead result) stopped.now.verdict }
+{
+    let EndVerdict::Refused {
+        place: _,
+        accused: _,
+        reason,
+    } = stopped.verdict
+    else {
+        return None;
+    };
+    let Ahead::Waits(entry) = stopped.ahead else {
+        unreachable!();
+    };
+    named_alone::<T>(
+        reason,
+        &stopped.end,
+        entry,
+        stopped.capture.bytes(),
+        stopped.failed,
+    )
 }

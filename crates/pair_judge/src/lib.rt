@@ -6,7 +6,6 @@
 #![tactic(auto)]
 
 mod captures;
-mod carried;
 mod course;
 mod end;
 mod end_verdict;
@@ -14,7 +13,6 @@ mod entering;
 mod failed_cause;
 mod failed_check;
 mod failed_laws;
-mod failed_record;
 mod fault;
 mod formats;
 mod held_link;

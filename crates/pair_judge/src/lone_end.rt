@@ -7,15 +7,17 @@ ghost use Rattle.capture_record.specs.Range.{NumbersFit};
 ghost use Rattle.capture_record.specs.declared.limit.TheConstants.{MAX_HINT};
 ghost use Rattle.dna_node.specs.WireLayers.{new_wire_layers_node};
 ghost use Rattle.pair_judge.specs.Summary.{counts_of};
-ghost use Rattle.pair_judge.specs.inner.LoneEnd.{HasRoomAlone, IfFailsAlone, MadeAloneIs, head_in, node_of_end, summary_of_end};
+ghost use Rattle.pair_judge.specs.inner.LoneEnd.{HasRoomAlone, IfFailsAlone, MadeAloneIs, NamesOwn, head_in, node_of_end, summary_of_end};
 ghost use Rattle.pair_judge.specs.inner.Making.{IsEvent};
 
 mod receiving;
 
 use crate::end_verdict::Accused;
 use crate::entering::enter;
+use crate::failed_check::{FailedCheck, NotSound};
 use crate::layers::SideLayers;
 use crate::noise::hear;
+use crate::sending::not_sound;
 use crate::step_fault::StepFault;
 use crate::summary::SideSummary;
 use crate::top::Top;
@@ -77,30 +79,41 @@ impl LoneEnd {
     }
 
     /// Makes one record: that of the entry and these bytes. An error: there is no memory for the packet that it sends, or for what the links keep
-    /// of a packet or of an event.
+    /// of a packet or of an event. Where it can't be made, and is no receipt, `failed` has the check that it does not pass.
     #[tactic(auto, using(crate::proofs::Entries::is_event))]
-    pub fn make<T: Top>(&mut self, entry: Entry, bytes: &[u8]) -> Result<MadeAlone, AllocError>
+    pub fn make<T: Top>(
+        &mut self,
+        entry: Entry,
+        bytes: &[u8],
+        failed: &mut Option<FailedCheck>,
+    ) -> Result<MadeAlone, AllocError>
         requires room { HasRoomAlone self.old }
         requires numbers { NumbersFit (record_with entry bytes.now) }
         ensures made { IfOk result (λ made. MadeAloneIs T.top made self.old self.new (record_with entry bytes.now)) }
+        ensures named { IfOk result (λ made. IfFailsAlone made (NamesOwn T.top (record_with entry bytes.now) self.old failed.new)) }
         ensures still { IfOk result (λ made. IfFailsAlone made (self.new ≡ self.old)) }
     {
         match entry {
-            Entry::Sent => self.make_sent::<T>(bytes),
+            Entry::Sent => self.make_sent::<T>(bytes, failed),
             Entry::Received { fate, hint } => self.make_received::<T>(hint, fate, bytes),
-            Entry::Noise => Ok(self.make_noise::<T>(bytes)),
-            _ => self.make_event::<T>(entry, bytes),
+            Entry::Noise => Ok(self.make_noise::<T>(bytes, failed)),
+            _ => self.make_event::<T>(entry, bytes, failed),
         }
     }
 
-    fn make_sent<T: Top>(&mut self, bytes: &[u8]) -> Result<MadeAlone, AllocError>
+    fn make_sent<T: Top>(
+        &mut self,
+        bytes: &[u8],
+        failed: &mut Option<FailedCheck>,
+    ) -> Result<MadeAlone, AllocError>
         requires { HasRoomAlone self.old }
         ensures made { IfOk result (λ made. MadeAloneIs T.top made self.old self.new (Record.Sent bytes.now)) }
+        ensures named { IfOk result (λ made. IfFailsAlone made (NamesOwn T.top (Record.Sent bytes.now) self.old failed.new)) }
         ensures still { IfOk result (λ made. IfFailsAlone made (self.new ≡ self.old)) }
     {
         T::shows_alone();
         match read_unit(bytes) {
-            Reading::Sound(message) => match T::sent(&mut self.layers, &message) {
+            Reading::Sound(message) => match T::sent(&mut self.layers, &message, failed) {
                 Ok(_) => {
                     self.counts = self.counts.with_sending();
                     Ok(MadeAlone::Done)
@@ -108,9 +121,12 @@ impl LoneEnd {
                 Err(StepFault::Refused(refusal)) => Ok(by_this_end(refusal)),
                 Err(StepFault::OutOfMemory) => Err(AllocError),
             },
-            Reading::HeaderBad => Ok(by_this_end(StepRefusal::NotAMessage)),
-            Reading::DataBad => Ok(by_this_end(StepRefusal::NotAMessage)),
-            Reading::Malformed(_) => Ok(by_this_end(StepRefusal::NotAMessage)),
+            Reading::HeaderBad => Ok(by_this_end(not_sound(NotSound::HeaderBad, failed))),
+            Reading::DataBad => Ok(by_this_end(not_sound(NotSound::DataBad, failed))),
+            Reading::Malformed(departure) => {
+                let seen = NotSound::Malformed(departure);
+                Ok(by_this_end(not_sound(seen, failed)))
+            }
         }
     }
 
@@ -139,13 +155,14 @@ impl LoneEnd {
         }
     }
 
-    fn make_noise<T: Top>(&mut self, bytes: &[u8]) -> MadeAlone
+    fn make_noise<T: Top>(&mut self, bytes: &[u8], failed: &mut Option<FailedCheck>) -> MadeAlone
         requires { HasRoomAlone self.old }
         ensures made { MadeAloneIs T.top result self.old self.new (Record.Noise bytes.now) }
+        ensures named { IfFailsAlone result (NamesOwn T.top (Record.Noise bytes.now) self.old failed.new) }
         ensures still { IfFailsAlone result (self.new ≡ self.old) }
     {
         T::shows_alone();
-        match hear::<T>(&mut self.layers, bytes) {
+        match hear::<T>(&mut self.layers, bytes, failed) {
             Ok(()) => {
                 self.counts = self.counts.with_receipt(true, false);
                 MadeAlone::Done
@@ -154,14 +171,20 @@ impl LoneEnd {
         }
     }
 
-    fn make_event<T: Top>(&mut self, entry: Entry, bytes: &[u8]) -> Result<MadeAlone, AllocError>
+    fn make_event<T: Top>(
+        &mut self,
+        entry: Entry,
+        bytes: &[u8],
+        failed: &mut Option<FailedCheck>,
+    ) -> Result<MadeAlone, AllocError>
         requires room { HasRoomAlone self.old }
         requires event { IsEvent entry }
         ensures made { IfOk result (λ made. MadeAloneIs T.top made self.old self.new (record_with entry bytes.now)) }
+        ensures named { IfOk result (λ made. IfFailsAlone made (NamesOwn T.top (record_with entry bytes.now) self.old failed.new)) }
         ensures still { IfOk result (λ made. IfFailsAlone made (self.new ≡ self.old)) }
     {
         T::shows_alone();
-        match enter::<T>(&mut self.layers, &mut self.counts, entry, bytes) {
+        match enter::<T>(&mut self.layers, &mut self.counts, entry, bytes, failed) {
             Ok(()) => Ok(MadeAlone::Done),
             Err(StepFault::Refused(refusal)) => Ok(by_this_end(refusal)),
             Err(StepFault::OutOfMemory) => Err(AllocError),

@@ -3,6 +3,7 @@
 ghost use Rattle.std.specs.Prelude.{List, OnOk};
 ghost use Rattle.pair_judge.specs.Order.{MadeRecord, TellsNext, record_told};
 
+use crate::failed_check::FailedCheck;
 use crate::fault::JudgeFault;
 use crate::made_entry::MadeEntry;
 use dna_node::Finding;
@@ -32,9 +33,10 @@ impl Observer for Nobody {
     }
 }
 
-/// The judge's way: the observer, and what it ends with.
+/// The judge's way: the observer, what it ends with, and the check that a record does not pass which is refused.
 #[derive(Drop)]
 pub struct Way<O: Observer> {
     pub observer: O,
     pub ending: Result<Finding, JudgeFault>,
+    pub failed: Option<FailedCheck>,
 }

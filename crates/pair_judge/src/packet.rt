@@ -1,11 +1,14 @@
 //! What a packet carries for the links.
 
-ghost use Rattle.std.specs.Prelude.{◌≡◌, IfOk, IfErr, Err};
+ghost use Rattle.std.specs.Prelude.{◌≡◌, IfOk, IfErr, Ok, Err};
 ghost use Rattle.dna_node.specs.Content as spec;
+ghost use Rattle.dna_packet.specs.ReadingPacket.{packet_at};
+ghost use Rattle.dna_station.specs.declared.refusal.StepRefusal.TheVariants.{BadPacket};
+ghost use Rattle.pair_judge.specs.FailedCheck.{lent_of};
+ghost use Rattle.pair_judge.specs.inner.Lent.{lent_in};
 ghost use Rattle.pair_judge.specs.inner.Packets.{content_in};
 
-use dna_packet::{Packet, read_packet};
-use dna_station::StepRefusal;
+use dna_packet::{Packet, PacketFault, read_packet};
 
 /// The bytes of an NSP message with the node addresses of its packet, of which they are a slice. They are read where the message is
 /// used: it is larger than they are, and is moved nowhere.
@@ -22,14 +25,17 @@ pub struct Carried<'a> {
 /// What a packet carries for the links, which is not read yet; `None` where it has no message of them, as a routing control packet
 /// and a packet on its way back to its source (Routing Layer 2.0, packet formats). Takes no memory.
 ///
-/// `BadPacket`: the packet can't be read.
+/// An error says where the packet departs from those of a circuit: then it can't be read (`BadPacket`).
 #[inline(always)]
-pub fn content(packet: &[u8]) -> Result<Option<Carried<'_>>, StepRefusal>
+pub fn content(packet: &[u8]) -> Result<Option<Carried<'_>>, PacketFault>
     ensures carried { IfOk result (λ carried. spec.content packet.now ≡ content_in carried) }
-    ensures bad { IfErr result (λ refusal. spec.content packet.now ≡ Err refusal) }
+    ensures lent { IfOk result (λ carried. lent_of (packet_at packet.now) ≡ Ok (lent_in carried)) }
+    ensures bad { IfErr result (λ fault. spec.content packet.now ≡ Err BadPacket) }
+    ensures departs { IfErr result (λ fault. lent_of (packet_at packet.now) ≡ Err fault) }
 {
-    let Ok(read) = read_packet(packet) else {
-        return Err(StepRefusal::BadPacket);
+    let read = match read_packet(packet) {
+        Ok(read) => read,
+        Err(fault) => return Err(fault),
     };
     if read.returned() {
         return Ok(None);

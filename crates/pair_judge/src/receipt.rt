@@ -8,11 +8,14 @@ ghost use Rattle.dna_station.specs.Line as line;
 ghost use Rattle.ddcmp_station.specs.Arrival.{arrival_view};
 ghost use Rattle.ddcmp_msg.specs.Reading.{IsSound, reading};
 ghost use Rattle.pair_judge.specs.Counting.{shows_damage};
-ghost use Rattle.pair_judge.specs.inner.Lines.{Shows};
+ghost use Rattle.capture_record.specs.declared.record.Record.TheVariants.{Received};
+ghost use Rattle.pair_judge.specs.FailedCheck.{failed_record};
+ghost use Rattle.pair_judge.specs.inner.Lines.{Shows, held};
 ghost use Rattle.pair_judge.specs.inner.Memory.{MayKeep};
 ghost use Rattle.pair_judge.specs.inner.Steps.{with_link};
 ghost use Rattle.pair_judge.specs.inner.Receipts.{IfFails, IfSound, ReceiptIs, came, is_damage, layers_move};
 
+use crate::failed_check::FailedCheck;
 use crate::layers::SideLayers;
 use crate::line::Line;
 use crate::line_unit::LineUnit;
@@ -39,8 +42,8 @@ pub enum Receipt {
 /// those before it.
 ///
 /// It fails in this order: `HintOrder` where the unit or a later one came before; it waits where the unit is not sent yet;
-/// `Undetected` where the bytes are not the unit's and show no damage; and as the station and the links refuse the arrival. An error: there is
-/// no memory for what the links keep of a packet, which shows no damage and was kept.
+/// `Undetected` where the bytes are not the unit's and show no damage; and as the station and the links refuse the arrival. Then `failed` has the
+/// check. An error: there is no memory for what the links keep of a packet, which shows no damage and was kept.
 #[inline(always)]
 pub fn receive<T: Top>(
     layers: &mut SideLayers,
@@ -48,6 +51,7 @@ pub fn receive<T: Top>(
     hint: u64,
     fate: Fate,
     bytes: &[u8],
+    failed: &mut Option<FailedCheck>,
 ) -> Result<Receipt, AllocError>
     requires hint { hint < 2 ^ 63 }
     requires load { load layers.old.station < 2 ^ 63 }
@@ -55,21 +59,30 @@ pub fn receive<T: Top>(
         ReceiptIs T.top receipt (layers_move layers.old layers.new line.old line.new) (came hint fate bytes.now) sent) }
     ensures sound { IfOk result (λ receipt. IfSound receipt (IsSound (reading bytes.now))) }
     ensures waits { result ≡ Ok Receipt.Waits → (layers.new ≡ layers.old) × (line.new ≡ line.old) }
+    ensures named { IfOk result (λ receipt. IfFails receipt (failed.new ≡ failed_record T.top.checks layers.old line.old.gone (held line.old)
+        (Received hint fate bytes.now))) }
     ensures still { IfOk result (λ receipt. IfFails receipt (layers.new ≡ layers.old)) }
     ensures same_line { IfOk result (λ receipt. IfFails receipt (line.new ≡ line.old)) }
     ensures memory { IfErr result (λ _. MayKeep fate (shows_damage (reading bytes.now))) }
     ensures load { load layers.new.station ≤ load layers.old.station + 1 }
 {
     if hint < line.gone {
+        *failed = Some(FailedCheck::HintOrder {
+            seen: hint,
+            lowest: line.gone,
+        });
         return Ok(Receipt::Fails(StepRefusal::HintOrder));
     }
     match line.unit(hint) {
         None => Ok(Receipt::Waits),
         Some(unit) => match coming(&unit, bytes) {
-            None => Ok(Receipt::Fails(StepRefusal::Undetected)),
+            None => {
+                *failed = Some(FailedCheck::Undetected { unit: hint });
+                Ok(Receipt::Fails(StepRefusal::Undetected))
+            }
             Some(arrival) => {
                 let damaged = is_damaged(&arrival);
-                match T::arrived(layers, arrival, unit.link(), fate) {
+                match T::arrived(layers, arrival, unit.link(), fate, failed) {
                     Ok(()) => {
                         line.release(hint);
                         Ok(Receipt::Done { damaged })

@@ -9,7 +9,10 @@ ghost use Rattle.pair_judge.specs.inner.Ends.{shown_end};
 mod due;
 mod failing;
 
+pub use failing::named_alone;
+
 use crate::course::{Ahead, Course};
+use crate::failed_check::FailedCheck;
 use crate::layers::SideLayers;
 use crate::line::Line;
 use crate::lone_end::LoneEnd;
@@ -28,6 +31,7 @@ pub struct SideEnd {
     records: u64,
     sent: u64,
     front: u64,
+    failed: Option<FailedCheck>,
 }
 
 impl Model for SideEnd {
@@ -44,13 +48,15 @@ impl Model for SideEnd {
       sent = e.sent;
       front = e.front;
       ahead = record_ahead e.capture.bytes e.ahead;
+      failed = e.failed;
     } };
 }
 
 impl SideEnd {
-    /// This side, whose next receipt may have this hint at the lowest, and apart from it the line on which its units lie.
-    pub(crate) fn of(course: Course, front: u64) -> (Self, Line)
-        ensures end { result.0 ≡ shown_end course front }
+    /// This side, whose next receipt may have this hint at the lowest, with the check that is named of its record ahead, and apart from it the line
+    /// on which its units lie.
+    pub(crate) fn of(course: Course, front: u64, failed: Option<FailedCheck>) -> (Self, Line)
+        ensures end { result.0 ≡ shown_end course front failed }
         ensures line { result.1 ≡ course.end.line }
     {
         let sent = course.end.line.sent();
@@ -62,13 +68,19 @@ impl SideEnd {
             records,
             sent,
             front,
+            failed,
         };
         (end, course.end.line)
     }
 
-    /// This end alone, with what is ahead of it.
-    pub(crate) fn alone(capture: CaptureReader, end: LoneEnd, ahead: Ahead) -> Self
-        ensures { result ≡ shown_lone capture end ahead }
+    /// This end alone, with what is ahead of it and the check that is named of that.
+    pub(crate) fn alone(
+        capture: CaptureReader,
+        end: LoneEnd,
+        ahead: Ahead,
+        failed: Option<FailedCheck>,
+    ) -> Self
+        ensures { result ≡ shown_lone capture end ahead failed }
     {
         SideEnd {
             capture,
@@ -77,6 +89,7 @@ impl SideEnd {
             records: end.counts.records,
             sent: end.counts.sent,
             front: end.front,
+            failed,
         }
     }
 
@@ -120,6 +133,15 @@ impl SideEnd {
         ensures { result ≡ self.now.front }
     {
         self.front
+    }
+
+    /// The check of the record ahead, with what is seen there and what is allowed, where the judge names this record: `None` at the other side of a
+    /// pair. Where one end is judged alone, `None` too of a response or an acknowledgement that no right other end sends, or a message of other nodes,
+    /// that came.
+    pub fn failed(&self) -> Option<FailedCheck>
+        ensures { result ≡ self.now.failed }
+    {
+        self.failed
     }
 
     /// The record that was read and not made, as its entry and the bytes beside it; `None` where there is none.

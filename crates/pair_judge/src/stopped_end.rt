@@ -2,6 +2,7 @@
 
 use crate::course::Ahead;
 use crate::end_verdict::EndVerdict;
+use crate::failed_check::FailedCheck;
 use crate::lone_end::LoneEnd;
 use capture::CaptureReader;
 
@@ -12,4 +13,6 @@ pub struct StoppedEnd {
     pub capture: CaptureReader,
     pub end: LoneEnd,
     pub ahead: Ahead,
+    /// Where the record ahead is refused and is no receipt, the check that it does not pass.
+    pub failed: Option<FailedCheck>,
 }

@@ -22,8 +22,10 @@ ghost use Rattle.pair_judge.specs.inner.Reached.{ShowsRuns};
 ghost use Rattle.pair_judge.specs.inner.Receipts.{is_damage};
 ghost use Rattle.pair_judge.specs.inner.Steps.{IfRefused, with_link};
 ghost use Rattle.pair_judge.specs.inner.Unit.{tags_of};
+ghost use Rattle.pair_judge.specs.inner.Named.{NamesRefusals};
 ghost use Rattle.pair_judge.specs.inner.Wire.{EndsAlike, JudgeTop, judge_hears};
 
+use crate::failed_check::FailedCheck;
 use crate::held_link::HeldLink;
 use crate::layers::SideLayers;
 use crate::step_fault::StepFault;
@@ -34,16 +36,22 @@ use ddcmp_station::{Arrival, StationEvent};
 use dna_station::StepRefusal;
 use nsp_link::LinkEvent;
 
-/// What a judge's stations have on top. It is chosen when the program is made, so that no record asks which it is.
+/// What a judge's stations have on top. It is chosen when the program is made, so that no record asks which it is. What refuses writes the check that
+/// it finds to `failed`.
 pub trait Top {
     // The machine that is run, and the kind of node that it takes the ends for.
     ghost top: { JudgeTop };
 
     /// The user starts or halts the station, which takes no memory.
-    fn start_or_halt(layers: &mut SideLayers, event: StationEvent) -> Result<(), StepRefusal>
+    fn start_or_halt(
+        layers: &mut SideLayers,
+        event: StationEvent,
+        failed: &mut Option<FailedCheck>,
+    ) -> Result<(), StepRefusal>
         requires { load layers.old.station < 2 ^ 63 }
         ensures ok { OnOk result (top.machine.user layers.old (event_of_station event) ≡ Ok layers.new) }
         ensures refused { IfErr result (λ refusal. top.machine.user layers.old (event_of_station event) ≡ Err refusal) }
+        ensures named { OnErr result (failed.new ≡ top.checks.user layers.old (event_of_station event)) }
         ensures still { OnErr result (layers.new ≡ layers.old) }
         ensures load { load layers.new.station ≤ load layers.old.station + 1 };
 
@@ -54,9 +62,14 @@ pub trait Top {
         ensures load { load layers.new.station ≤ load layers.old.station + 1 };
 
     /// A packet was composed that will never be sent.
-    fn composed(layers: &mut SideLayers, packet: &[u8]) -> Result<(), StepFault>
+    fn composed(
+        layers: &mut SideLayers,
+        packet: &[u8],
+        failed: &mut Option<FailedCheck>,
+    ) -> Result<(), StepFault>
         ensures ok { OnOk result (top.machine.user layers.old (events.Composed packet.now) ≡ Ok layers.new) }
         ensures refused { IfErr result (IfRefused (λ refusal. top.machine.user layers.old (events.Composed packet.now) ≡ Err refusal)) }
+        ensures named { IfErr result (IfRefused (λ refusal. failed.new ≡ top.checks.user layers.old (events.Composed packet.now))) }
         ensures still { IfErr result (IfRefused (λ refusal. layers.new ≡ layers.old)) }
         ensures station { layers.new.station ≡ layers.old.station };
 
@@ -65,19 +78,29 @@ pub trait Top {
         ensures { (s : WireLayers) (event : Event) → IsCarried event → top.machine.user s event ≡ Ok s };
 
     /// An event of one of the links.
-    fn at_links(layers: &mut SideLayers, event: LinkEvent) -> Result<(), StepFault>
+    fn at_links(
+        layers: &mut SideLayers,
+        event: LinkEvent,
+        failed: &mut Option<FailedCheck>,
+    ) -> Result<(), StepFault>
         requires { IsOfOneLink (link_view event) }
         ensures ok { OnOk result (top.machine.user layers.old (event_of_links (link_view event.entry)) ≡ Ok layers.new) }
         ensures refused { IfErr result (IfRefused (λ refusal. top.machine.user layers.old (event_of_links (link_view event.entry)) ≡ Err refusal)) }
+        ensures named { IfErr result (IfRefused (λ refusal. failed.new ≡ top.checks.user layers.old (event_of_links (link_view event.entry)))) }
         ensures still { IfErr result (IfRefused (λ refusal. layers.new ≡ layers.old)) }
         ensures memory { IfErr result (IfNoMemory (
             MayEnter top.machine layers.old (event_of_links (link_view event.entry)) (Some (link_view event.entry)))) }
         ensures station { layers.new.station ≡ layers.old.station };
 
     /// The node sent this message: the tags that its unit goes with.
-    fn sent(layers: &mut SideLayers, message: &Message) -> Result<UnitTag, StepFault>
+    fn sent(
+        layers: &mut SideLayers,
+        message: &Message,
+        failed: &mut Option<FailedCheck>,
+    ) -> Result<UnitTag, StepFault>
         ensures ok { IfOk result (λ tag. top.machine.sends layers.old (view message.now) ≡ Ok (layers.new, tags_of tag)) }
         ensures refused { IfErr result (IfRefused (λ refusal. top.machine.sends layers.old (view message.now) ≡ Err refusal)) }
+        ensures named { IfErr result (IfRefused (λ refusal. failed.new ≡ top.checks.sends layers.old (view message.now))) }
         ensures allowed { OnOk result (wire_sending_refusal layers.old.station (view message.now) ≡ None) }
         ensures still { IfErr result (IfRefused (λ refusal. layers.new ≡ layers.old)) }
         ensures memory { IfErr result (IfNoMemory (wire_sending_refusal layers.old.station (view message.now) ≡ None)) }
@@ -89,11 +112,14 @@ pub trait Top {
         arrival: Arrival,
         link: &HeldLink,
         fate: Fate,
+        failed: &mut Option<FailedCheck>,
     ) -> Result<(), StepFault>
         requires { load layers.old.station < 2 ^ 63 }
         ensures ok { OnOk result (top.machine.arrives layers.old (with_link link.now (arrival_view arrival.entry)) fate ≡ Ok layers.new) }
         ensures refused { IfErr result (IfRefused (λ refusal.
             top.machine.arrives layers.old (with_link link.now (arrival_view arrival.entry)) fate ≡ Err refusal)) }
+        ensures named { IfErr result (IfRefused (λ refusal.
+            failed.new ≡ top.checks.arrives layers.old (with_link link.now (arrival_view arrival.entry)) fate)) }
         ensures still { IfErr result (IfRefused (λ refusal. layers.new ≡ layers.old)) }
         ensures memory { IfErr result (IfNoMemory (MayKeep fate (is_damage (arrival_view arrival.entry)))) }
         ensures load { load layers.new.station ≤ load layers.old.station + 1 };
@@ -134,6 +160,10 @@ pub trait Top {
     /// How many links began.
     fn links_begun(layers: &SideLayers) -> u64
         ensures { result ≡ top.links layers.now };
+
+    /// That the check which is named is the one for which a step is refused, as a function that does nothing.
+    fn names()
+        ensures { NamesRefusals top };
 
     /// What a run of the wire nodes shows of nodes of the kind, as a function that does nothing.
     fn shows()

@@ -11,7 +11,7 @@ ghost use Rattle.pair_judge.specs.inner.Course.{MayRead, along};
 ghost use Rattle.pair_judge.specs.Faulty.{IsJudgeFault, is_failed_read_of, side_fault_of};
 ghost use Rattle.pair_judge.specs.Order.{MadeRecord, TellsNext};
 ghost use Rattle.pair_judge.specs.Summary.{HasRoom};
-ghost use Rattle.pair_judge.specs.inner.Reached.{IfEnds, IsStopped, IsUnderWay, TurnIs, turned};
+ghost use Rattle.pair_judge.specs.inner.Reached.{IfEnds, IsStopped, IsUnderWay, NamesStep, TurnIs, turned};
 
 use crate::captures::endings;
 use crate::course::{Advance, Course};
@@ -26,7 +26,7 @@ use two_nodes::reading_on;
 use wire_base::{Side, Tally};
 
 /// Makes one record, or finds that the judge is at its end: `true` where it is not yet. What it ends with is written to `way`, and only
-/// then, so that on the way of a record that is made no answer goes through memory.
+/// then, so that on the way of a record that is made no answer goes through memory; so is the check that a record does not pass which is refused.
 ///
 /// `Capture`: the next record of that side can't be read. `OutOfMemory`: there is no room for what the record sends, keeps or hands in,
 /// or for what the observer keeps of it.
@@ -49,6 +49,7 @@ pub fn turn<T: Top, O: Observer, R: Read, S: Read>(
         (along text_a a.new (to_come a.new.capture.unread (R.remaining (tally_lent reader_a.new))) made_a)
         (along text_b b.new (to_come b.new.capture.unread (S.remaining (tally_lent reader_b.new))) made_b)) }
     ensures same_observer { IfOk (turned result way.new.ending) (λ turn. IfEnds turn (way.new.observer ≡ way.old.observer)) }
+    ensures named { IfOk (turned result way.new.ending) (NamesStep T.top a.new b.new way.new.failed) }
     ensures may_read { IfOk (turned result way.new.ending) (λ _. MayRead a.new × MayRead b.new) }
     ensures fault { IfErr (turned result way.new.ending) (λ fault.
         (order : List MadeRecord) (text_a text_b : Option (List ℕ)) (made_a made_b : List Record) →
@@ -63,7 +64,13 @@ pub fn turn<T: Top, O: Observer, R: Read, S: Read>(
     if a.is_held_up::<T>(&b.end.line) {
         return turn_of_b::<T, O, S>(a, true, b, reader_b, way);
     }
-    match a.advance::<T, O, R>(&mut b.end.line, reader_a, Side::A, &mut way.observer) {
+    match a.advance::<T, O, R>(
+        &mut b.end.line,
+        reader_a,
+        Side::A,
+        &mut way.observer,
+        &mut way.failed,
+    ) {
         Ok(Advance::Made) => true,
         Ok(Advance::Fails(refusal)) => {
             way.ending = Ok(refused(Side::A, a, Cause::Step(refusal)));
@@ -96,6 +103,7 @@ fn turn_of_b<T: Top, O: Observer, S: Read>(
         (along text_a a.new come_a made_a) (along text_b b.new (to_come b.new.capture.unread (S.remaining (tally_lent reader_b.new))) made_b)) }
     ensures same { (a.new.capture ≡ a.old.capture) × (a.new.ahead ≡ a.old.ahead) }
     ensures same_observer { IfOk (turned result way.new.ending) (λ turn. IfEnds turn (way.new.observer ≡ way.old.observer)) }
+    ensures named { IfOk (turned result way.new.ending) (NamesStep T.top a.new b.new way.new.failed) }
     ensures may_read { IfOk (turned result way.new.ending) (λ _. MayRead b.new) }
     ensures fault { IfErr (turned result way.new.ending) (λ fault.
         (order : List MadeRecord) (text_a text_b come_a : Option (List ℕ)) (made_a made_b : List Record) → IsUnderWay T.top order
@@ -106,7 +114,13 @@ fn turn_of_b<T: Top, O: Observer, S: Read>(
 {
     endings::<T>();
     reading_on::<JudgedNodes<T>>();
-    match b.advance::<T, O, S>(&mut a.end.line, reader_b, Side::B, &mut way.observer) {
+    match b.advance::<T, O, S>(
+        &mut a.end.line,
+        reader_b,
+        Side::B,
+        &mut way.observer,
+        &mut way.failed,
+    ) {
         Ok(Advance::Made) => true,
         Ok(Advance::Fails(refusal)) => {
             way.ending = Ok(refused(Side::B, b, Cause::Step(refusal)));

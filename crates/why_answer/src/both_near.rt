@@ -8,7 +8,6 @@ use crate::unit_changes::unit_changes;
 use capture::CaptureFault;
 use edited::{Edit, Refused, candidates};
 use pair_judge::{JudgedEnds, Verdict};
-use printing::layers::Layers;
 use std::alloc::{AllocError, Global};
 use std::io::{Read, Seek};
 use wire_base::Side;
@@ -59,7 +58,6 @@ impl BothNear {
     pub fn to_try(
         &self,
         alloc: Global,
-        layers: Layers,
         ends: &JudgedEnds,
         side: Side,
         bytes: u64,
@@ -69,7 +67,7 @@ impl BothNear {
         if bytes.saturating_mul(edits.len() as u64) > limit {
             put_nearest_first(&mut edits, self.places())?;
         }
-        let units = unit_changes(alloc, layers, ends, side, self)?;
+        let units = unit_changes(alloc, ends, side, self)?;
         Ok(ToTry {
             edits,
             units,

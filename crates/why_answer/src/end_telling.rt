@@ -148,7 +148,7 @@ pub fn text_of_refused_end(
 ) -> Result<String, AllocError>
     ensures { IfOk result (λ text. TellsEnd printout.entry.layers printout.entry.form (stop verdict end.now) (string_bytes text)) }
 {
-    let Some(refusal) = refusal_of(printout.layers, verdict, end, &rows.past, queued) else {
+    let Some(refusal) = refusal_of(verdict, end, &rows.past, queued) else {
         return end_text(alloc, printout.layers, verdict);
     };
     match printout.form {
@@ -163,13 +163,12 @@ pub fn text_of_refused_end(
 
 // What is told of the refused record; `None` where none is ahead.
 fn refusal_of<'t>(
-    layers: Layers,
     verdict: EndVerdict,
     end: &'t SideEnd,
     past: &LinkPast,
     queued: QueuedAnswer,
 ) -> Option<EndRefusal<'t>>
-    ensures { IfSome result (λ told. IsToldOf layers told (stop verdict end.now)) }
+    ensures { IfSome result (λ told. IsToldOf told (stop verdict end.now)) }
 {
     let Some((entry, bytes)) = end.ahead() else {
         return None;
@@ -191,7 +190,7 @@ fn refusal_of<'t>(
         place,
         reason,
         accusation: accusation_knowing(by_table, reason, has_begun, excuse, other),
-        failed: end.failed_alone(layers, reason),
+        failed: end.failed(),
         says: entry,
         bytes,
         lines: past.lines(Side::A, addresses_of(entry, bytes)),

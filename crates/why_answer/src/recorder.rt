@@ -183,7 +183,7 @@ fn try_near<A: Read + Seek, B: Read + Seek>(
     near: BothNear,
 ) -> Result<Tried, AllocError> {
     let size = bytes_read(a).saturating_add(bytes_read(b));
-    let to_try = near.to_try(alloc, layers, ends, side, size)?;
+    let to_try = near.to_try(alloc, ends, side, size)?;
     let records = near.records_behind(ends);
     let mut tried = Tried::of_near(alloc, records, near);
     if records >= FEW_RECORDS {

@@ -116,7 +116,7 @@ pub fn text_of_refused(
 ) -> Result<String, AllocError>
     ensures { IfOk result (λ text. TellsRefusal printout.entry.layers printout.entry.form ends.now refused (string_bytes text)) }
 {
-    let Some(refusal) = refusal_of(printout.layers, refused, ends, tried, &rows.past) else {
+    let Some(refusal) = refusal_of(refused, ends, tried, &rows.past) else {
         return verdict_text(alloc, Layers::Both, ends.verdict());
     };
     match printout.form {
@@ -133,22 +133,21 @@ pub fn text_of_refused(
 
 // What is told of the record; `None` where none is ahead, or no check is named.
 fn refusal_of<'t>(
-    layers: Layers,
     refused: Refused,
     ends: &'t JudgedEnds,
     tried: &'t Tried,
     past: &LinkPast,
 ) -> Option<Refusal<'t>>
-    ensures { IfSome result (λ told. IsTold layers ends.now refused told) }
+    ensures { IfSome result (λ told. IsTold ends.now refused told) }
 {
     let Some((entry, bytes)) = ends.ahead(refused.side) else {
         return None;
     };
-    let Some((_, failed)) = ends.failed(layers) else {
+    let end = ends.end(refused.side);
+    let Some(failed) = end.failed() else {
         return None;
     };
     let named = addresses_of(entry, bytes);
-    let end = ends.end(refused.side);
     let other_at = ends.end(refused.side.other()).records().saturating_add(2);
     Some(Refusal {
         side: refused.side,

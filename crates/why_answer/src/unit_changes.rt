@@ -6,21 +6,19 @@ use crate::right_units::right_units;
 use capture_record::Entry;
 use edited::{Change, Mistake, Row, with_bytes};
 use pair_judge::{JudgedEnds, Matter, Verdict};
-use printing::layers::Layers;
 use std::alloc::{AllocError, Global};
 use wire_base::Side;
 
-/// The changes of both captures, judged over these layers, under which the refused unit of this side is one that is right there, at both ends; none
+/// The changes of both captures, under which the refused unit of this side is one that is right there, at both ends; none
 /// where no unit is refused that was sent. `AllocError` where there is no memory for them.
 pub fn unit_changes(
     alloc: Global,
-    layers: Layers,
     ends: &JudgedEnds,
     side: Side,
     near: &BothNear,
 ) -> Result<Vec<PairChanges>, AllocError> {
     let (own, other) = near.of(side);
-    let (Some((_, failed)), Some(row)) = (ends.failed(layers), own.row_ahead()) else {
+    let (Some(failed), Some(row)) = (ends.end(side).failed(), own.row_ahead()) else {
         return Ok(Vec::new(alloc));
     };
     if row.entry != Entry::Sent {

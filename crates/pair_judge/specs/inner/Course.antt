@@ -19,8 +19,11 @@ use Rattle.pair_judge.specs.declared.course.Ahead.TheVariants.{Unread, Waits, En
 use Rattle.pair_judge.specs.declared.course.Course.{Course}
 use Rattle.pair_judge.specs.declared.course.Advance.{Advance}
 use Rattle.pair_judge.specs.declared.course.Advance.TheVariants as answers
+use Rattle.pair_judge.specs.declared.failed_check.FailedCheck.{FailedCheck}
+use Rattle.pair_judge.specs.Ends.{record_ahead}
+use Rattle.pair_judge.specs.FailedCheck.{failed_by}
 use Rattle.pair_judge.specs.Heads.{head_of}
-use Rattle.pair_judge.specs.inner.Lines.{Shows}
+use Rattle.pair_judge.specs.inner.Lines.{Shows, held}
 use Rattle.pair_judge.specs.inner.Wire.{judge_step, JudgeHalf, JudgeTop}
 use Rattle.pair_judge.specs.inner.Making.{Move, StandsFor, IsMade}
 
@@ -110,7 +113,19 @@ IfNotMade answers.Blocked P = P
 IfNotMade answers.Ended P = P
 IfNotMade (answers.Fails refusal) P = P
 
+-- a fact of a record that can't be made
+abbrev pub IfRefused : Advance → Type 0 → Type 0
+IfRefused answers.Made P = Unit {0}
+IfRefused answers.Blocked P = Unit {0}
+IfRefused answers.Ended P = Unit {0}
+IfRefused (answers.Fails refusal) P = P
+
 module _ (top : JudgeTop) where
+  -- the check that is named is the first that the record ahead does not pass, where this line leads to its side
+  abbrev pub NamesAhead : Course → Line → Option FailedCheck → Type 0
+  NamesAhead own incoming failed =
+      failed ≡ failed_by top.checks own.end.layers incoming.gone (held incoming) (record_ahead own.capture.bytes own.ahead)
+
   -- the record waits for its unit, whatever the halves are that the two sides stand for
   abbrev pub WaitsAt : End → Line → Record → Type 0
   WaitsAt own incoming r = (mine theirs : JudgeHalf) → StandsFor own incoming mine → Shows incoming theirs.sent →

@@ -14,6 +14,7 @@ use Rattle.pair_judge.specs.declared.course.Ahead.TheVariants.{Ended}
 use Rattle.pair_judge.specs.declared.end_verdict.Accused.{Accused}
 use Rattle.pair_judge.specs.declared.end_verdict.EndVerdict.{EndVerdict}
 use Rattle.pair_judge.specs.declared.end_verdict.EndVerdict.TheVariants.{Passed, Refused}
+use Rattle.pair_judge.specs.declared.failed_check.FailedCheck.{FailedCheck}
 use Rattle.pair_judge.specs.declared.lone_end.LoneEnd.{LoneEnd}
 use Rattle.pair_judge.specs.declared.reason.Reason.{Reason}
 use Rattle.pair_judge.specs.declared.stopped_end.StoppedEnd.{StoppedEnd}
@@ -25,12 +26,12 @@ use Rattle.pair_judge.specs.Order.{MadeRecord}
 use Rattle.pair_judge.specs.Reason.{reason_of_step}
 use Rattle.pair_judge.specs.Summary.{counts_of}
 use Rattle.pair_judge.specs.inner.Course.{IsWaiting, waiting}
-use Rattle.pair_judge.specs.inner.LoneEnd.{node_of_end}
+use Rattle.pair_judge.specs.inner.LoneEnd.{NamesOwn, node_of_end}
 use Rattle.pair_judge.specs.inner.Wire.{JudgeTop}
 
 -- what is shown of it
-abbrev pub shown_lone : CaptureState → LoneEnd → Ahead → ShownEnd
-shown_lone capture end ahead = record {
+abbrev pub shown_lone : CaptureState → LoneEnd → Ahead → Option FailedCheck → ShownEnd
+shown_lone capture end ahead failed = record {
   records = end.counts.records;
   layers = end.layers;
   station = view_of end.layers.station;
@@ -38,6 +39,7 @@ shown_lone capture end ahead = record {
   sent = end.counts.sent;
   front = end.front;
   ahead = record_ahead capture.bytes ahead;
+  failed = failed;
 }
 
 module _ (top : JudgeTop) where
@@ -49,6 +51,7 @@ module _ (top : JudgeTop) where
     pub refusal : StepRefusal
     pub is_reason : reason ≡ reason_of_step refusal
     pub refused : step_alone top.alone (node_of_end s.end) next ≡ Refuses (accused_view accused) refusal
+    pub names : NamesOwn top next s.end s.failed
 
   abbrev pub StopsThere : StoppedEnd → EndVerdict → Type 0
   StopsThere s (Passed summary) = s.ahead ≡ Ended

@@ -1,14 +1,16 @@
 -- One end alone beside its node, and what became of one record there.
-use Rattle.std.specs.Prelude.{◌≡◌, ℕ, ◌+◌, ◌<◌, ◌≤◌, ◌^◌, Bool, false, Result, Ok, Err}
+use Rattle.std.specs.Prelude.{◌≡◌, ℕ, ◌+◌, ◌<◌, ◌≤◌, ◌^◌, Bool, false, [], Option, Result, Ok, Err}
 use Rattle.ddcmp_msg.specs.Message.{MessageValue}
 use Rattle.ddcmp_msg.specs.Reading.{ReadingValue}
 use Rattle.capture_record.specs.declared.fate.Fate.{Fate}
 use Rattle.capture_record.specs.declared.record.Record.{Record}
+use Rattle.capture_record.specs.declared.record.Record.TheVariants.{Sent, Received, Noise, User}
 use Rattle.capture.specs.Reader.{CaptureState}
 use Rattle.dna_station.specs.declared.head.Head.{Head}
 use Rattle.dna_station.specs.WireStation.{load}
 use Rattle.dna_node.specs.WireLayers.{WireLayers, WireLayersNode}
 use Rattle.dna_node.specs.Alone.{step_alone, comes_alone, sound_comes, accused_by, Makes, Refuses, StepAlone}
+use Rattle.pair_judge.specs.declared.failed_check.FailedCheck.{FailedCheck}
 use Rattle.pair_judge.specs.declared.lone_end.LoneEnd.{LoneEnd}
 use Rattle.pair_judge.specs.declared.lone_end.MadeAlone.{MadeAlone}
 use Rattle.pair_judge.specs.declared.lone_end.MadeAlone.TheVariants.{Done, Fails}
@@ -19,6 +21,7 @@ use Rattle.pair_judge.specs.declared.step_fault.StepFault.TheVariants.{Refused}
 use Rattle.pair_judge.specs.declared.summary.SideSummary.{SideSummary}
 use Rattle.pair_judge.specs.Counting.{shows_damage}
 use Rattle.pair_judge.specs.EndJudged.{accused_view}
+use Rattle.pair_judge.specs.FailedCheck.{failed_record}
 use Rattle.pair_judge.specs.Summary.{HasRoomFor, counted}
 use Rattle.pair_judge.specs.inner.Receipts.{node_at}
 use Rattle.pair_judge.specs.inner.Wire.{JudgeTop}
@@ -55,6 +58,14 @@ module _ (top : JudgeTop) where
 abbrev pub IfFailsAlone : MadeAlone → Type 0 → Type 0
 IfFailsAlone Done P = Unit {0}
 IfFailsAlone (Fails accused refusal) P = P
+
+module _ (top : JudgeTop) where
+  -- The check that is named is the first that this record does not pass; of a receipt none is
+  abbrev pub NamesOwn : Record → LoneEnd → Option FailedCheck → Type 0
+  NamesOwn (Received hint fate bytes) end failed = Unit {0}
+  NamesOwn (Sent bytes) end failed = failed ≡ failed_record top.checks end.layers end.front [] (Sent bytes)
+  NamesOwn (Noise bytes) end failed = failed ≡ failed_record top.checks end.layers end.front [] (Noise bytes)
+  NamesOwn (User event) end failed = failed ≡ failed_record top.checks end.layers end.front [] (User event)
 
 -- ---- what came, at whatever head and front
 

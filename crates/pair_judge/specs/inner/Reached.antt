@@ -19,12 +19,13 @@ use Rattle.pair_judge.specs.declared.line.Line.{Line}
 use Rattle.pair_judge.specs.declared.end.End.{End}
 use Rattle.pair_judge.specs.declared.course.Ahead.TheVariants.{Ended}
 use Rattle.pair_judge.specs.declared.course.Course.{Course}
+use Rattle.pair_judge.specs.declared.failed_check.FailedCheck.{FailedCheck}
 use Rattle.pair_judge.specs.declared.fault.JudgeFault.{JudgeFault}
 use Rattle.dna_station.specs.WireStation.{load}
 use Rattle.dna_node.specs.WireLayers.{wire_layers_start}
 use Rattle.pair_judge.specs.inner.Wire.{judge_pair, judge_step, JudgeHalf, JudgeTop, JudgeWorld}
 use Rattle.pair_judge.specs.inner.Making.{StandsFor}
-use Rattle.pair_judge.specs.inner.Course.{IsRead, Track, WaitsAt, IsWaiting, having_made, read_of}
+use Rattle.pair_judge.specs.inner.Course.{IsRead, NamesAhead, Track, WaitsAt, IsWaiting, having_made, read_of}
 use Rattle.pair_judge.specs.Finding.{EndsWhere, IsCounted, IsFinding, of_side}
 use Rattle.pair_judge.specs.Order.{MadeRecord, IsRunInOrder, records_of}
 use Rattle.pair_judge.specs.Summary.{counts_of, summary_at}
@@ -165,3 +166,13 @@ module _ (top : JudgeTop) where
   abbrev pub TurnIs : (order : List MadeRecord) → (tells : MadeRecord → Type 0) → Option Finding → Track → Track → Type 0
   TurnIs order tells None a b = HasGoneOn order tells a b
   TurnIs order tells (Some finding) a b = IsFound a b finding × IsInOrder order a b
+
+  -- where a record is refused, the check that is named is the first that it does not pass
+  abbrev pub Names : Course → Course → Option FailedCheck → Finding → Type 0
+  Names a b failed (findings.Refused A place (Step refusal)) = NamesAhead top a b.end.line failed
+  Names a b failed (findings.Refused B place (Step refusal)) = NamesAhead top b a.end.line failed
+  Names a b failed finding = Unit {0}
+
+  abbrev pub NamesStep : Course → Course → Option FailedCheck → Option Finding → Type 0
+  NamesStep a b failed None = Unit {0}
+  NamesStep a b failed (Some finding) = Names a b failed finding

@@ -10,7 +10,7 @@ use Rattle.pair_judge.specs.inner.Answer.{verdict_of}
 use Rattle.pair_judge.specs.inner.Course.{IsRead, along}
 use Rattle.pair_judge.specs.inner.Ends.{ends_shown}
 use Rattle.pair_judge.specs.Order.{MadeRecord}
-use Rattle.pair_judge.specs.inner.Reached.{IsInOrder, StopsFor}
+use Rattle.pair_judge.specs.inner.Reached.{IsInOrder, Names, StopsFor}
 use Rattle.pair_judge.specs.inner.Wire.{JudgeTop}
 
 module _ (top : JudgeTop) where
@@ -36,6 +36,7 @@ module _ (top : JudgeTop) where
     pub in_order : IsInOrder top order (along text_a s.a come_a made_a) (along text_b s.b come_b made_b)
     pub told : tells order
     pub stops : StopsFor top (along text_a s.a come_a made_a) (along text_b s.b come_b made_b) s.finding
+    pub names : Names top s.a s.b s.failed s.finding
 
   -- both ends are shown as they are at such a stop
   pub record AreShownIn (text_a text_b : Option (List ℕ)) (tells : List MadeRecord → Type 0) (ends : ShownEnds) : Type 0 where

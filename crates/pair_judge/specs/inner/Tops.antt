@@ -25,6 +25,7 @@ use Rattle.dna_links.specs.declared.queue.Queues.TheVariants.{Without}
 use Rattle.dna_node.specs.WireLayers.{WireLayers, LayersTag, to_wire_station, wire_layers_machine, with_wire_station}
 use Rattle.pair_judge.specs.AnyPeriod.{layers_of_any_period, stations_of_any_period}
 use Rattle.pair_judge.specs.EndKind.{layers_alone_by, station_alone}
+use Rattle.pair_judge.specs.FailedCheck.{layers_checks, station_checks}
 use Rattle.pair_judge.specs.inner.Wire.{JudgeTop}
 
 -- ---- the rules on tags
@@ -61,6 +62,7 @@ links_top of_period queues = record {
   kind = layers_of of_period queues;
   machine = wire_layers_machine (judged_so of_period queues);
   links = λ (s : WireLayers). length s.links.links;
+  checks = layers_checks (period_rule of_period) queues;
   alone = layers_end_by queues;
   end = layers_alone_by queues;
   Shows = ShowsLayers of_period queues;
@@ -111,6 +113,7 @@ nothing_top of_period = record {
   kind = stations_of of_period;
   machine = line_by (period_rule of_period);
   links = λ (s : WireLayers). 0;
+  checks = station_checks (period_rule of_period);
   alone = line_end;
   end = station_alone;
   Shows = ShowsStation of_period;

@@ -12,6 +12,7 @@ use Rattle.dna_node.specs.Kind.{NodeKind}
 use Rattle.dna_node.specs.Alone.{Accused, EndOf, EndingAlone, Passed, Refused, Refuses, ends_from, step_alone}
 use Rattle.dna_node.specs.WireLayers.{WireLayers, LayersTag, WireLayersNode, WireLayersUnit, new_wire_layers_node}
 use Rattle.pair_judge.specs.EndKind.{EndKind}
+use Rattle.pair_judge.specs.FailedCheck.{NodeChecks}
 
 abbrev pub JudgeHalf : Type 0
 JudgeHalf = Half WireLayersNode WireLayersUnit
@@ -26,6 +27,8 @@ pub record JudgeTop : Type 1 where
   -- what it runs, and how many links began there
   pub machine : Machine WireLayers LayersTag
   pub links : WireLayers → ℕ
+  -- the checks that what is run does not pass
+  pub checks : NodeChecks
   -- the same of one end alone, and what it is taken for there
   pub alone : EndOf WireLayers LayersTag
   pub end : EndKind

@@ -1,105 +1,67 @@
-//! Which check the refused record does not pass.
+//! Which check of the record ahead is named, where both sides stop.
 
-ghost use Rattle.std.specs.Prelude.{◌≡◌, option_and_then, option_copied, option_map, slice_get};
-ghost use Rattle.nsp_link.specs.Kinds.{queues_of};
-ghost use Rattle.nsp_link.specs.View.{rest_of};
-ghost use Rattle.pair_judge.specs.JudgedAs.{queues_of as queues_judged};
+ghost use Rattle.std.specs.Prelude.{◌≡◌, Option, option_map};
 ghost use Rattle.pair_judge.specs.FailedIn as spec;
-ghost use Rattle.pair_judge.specs.Finding.{of_side};
-ghost use Rattle.pair_judge.specs.inner.Lines.{held};
+ghost use Rattle.pair_judge.specs.inner.Ends.{awaited_by, check_at, check_for, sent_on};
 
-use super::JudgedEnds;
-use crate::failed_cause::of_reason;
+use crate::course::{Ahead, Course};
 use crate::failed_check::{Awaited, FailedCheck};
-use crate::judged_as::Layers;
-use crate::line::Line;
-use crate::reason::Reason;
-use crate::side_end::SideEnd;
-use crate::verdict::Verdict;
-use nsp_link::{WITH_QUEUES, WITHOUT_QUEUES};
+use crate::stopped::Stopped;
+use capture_record::Entry;
+use dna_node::{Cause, Finding};
 use wire_base::Side;
 
-impl JudgedEnds {
-    /// The side of the refused record, and the check that the record does not pass, with what is seen there and what is allowed: over these
-    /// layers, as was judged. The check is one of the reason of the verdict. `None` where the pair is accepted, and where none is named. Takes no
-    /// memory.
-    pub fn failed(&self, layers: Layers) -> Option<(Side, FailedCheck)>
-        ensures { spec.IsFailedIn (queues_judged layers) self.now result }
-    {
-        match layers {
-            Layers::Queued => self.failed_by::<WITH_QUEUES>(),
-            Layers::Both | Layers::Station => self.failed_by::<WITHOUT_QUEUES>(),
-        }
-    }
-
-    // The same of nodes with queues, or without.
-    fn failed_by<const QUEUES: u8>(&self) -> Option<(Side, FailedCheck)>
-        ensures { spec.IsFailedIn (queues_of QUEUES) self.now result }
-    {
-        let Verdict::Refused {
-            side,
-            place: _,
-            reason,
-        } = self.verdict
-        else {
-            return None;
-        };
-        match self.first_at::<QUEUES>(side, reason) {
-            Some(check) => Some((side, check)),
-            None => None,
-        }
-    }
-
-    // The first check of this reason that fails at this side.
-    fn first_at<const QUEUES: u8>(&self, side: Side, reason: Reason) -> Option<FailedCheck>
-        ensures { spec.IsFirstOf reason (spec.checks_at (queues_of QUEUES) side self.now) result }
-    {
-        match side {
-            Side::A => first_of::<QUEUES>(reason, &self.a, &self.b, &self.line_b),
-            Side::B => first_of::<QUEUES>(reason, &self.b, &self.a, &self.line_a),
-        }
-    }
-
-    /// What is left of the message that the link of this side with this number sends: bytes with which its next new segment has to begin; `None`
-    /// where there is no such link, or all that was handed in is given (NSP 4.0, data segments). Takes no memory.
-    pub fn rest(&self, side: Side, number: usize) -> Option<&[u8]>
-        ensures { option_copied result ≡ option_and_then rest_of (slice_get (of_side side self.now.a self.now.b).links.links number) }
-    {
-        match side {
-            Side::A => self.a.rest(number),
-            Side::B => self.b.rest(number),
-        }
+/// The check that is named of this side's record ahead: none at the side that the finding does not name.
+pub fn check_at_side(side: Side, stopped: &Stopped) -> Option<FailedCheck>
+    ensures { result ≡ check_at side stopped.now stopped.now.finding }
+{
+    match stopped.finding {
+        Finding::Accepted => None,
+        Finding::Refused {
+            side: named, cause, ..
+        } => match side {
+            Side::A => match named {
+                Side::A => checked(cause, stopped.failed, &stopped.a, &stopped.b),
+                Side::B => None,
+            },
+            Side::B => match named {
+                Side::A => None,
+                Side::B => checked(cause, stopped.failed, &stopped.b, &stopped.a),
+            },
+        },
     }
 }
 
-// The first check of this reason that fails at a side, to which this line leads from the other one.
-fn first_of<const QUEUES: u8>(
-    reason: Reason,
-    own: &SideEnd,
-    other: &SideEnd,
-    incoming: &Line,
+// The check of a record that ends a run for this cause: that of a step is known.
+fn checked(
+    cause: Cause,
+    step: Option<FailedCheck>,
+    own: &Course,
+    other: &Course,
 ) -> Option<FailedCheck>
-    requires { own.now.front ≡ incoming.now.gone }
-    ensures { spec.IsFirstOf reason (spec.checks_by (queues_of QUEUES) own.now other.now (held incoming.now)) result }
+    ensures { result ≡ check_for cause step own.now other.now }
 {
-    let here = awaited(own, other);
-    let there = awaited(other, own);
-    let no_order = of_reason(reason, both_await(here, there), None);
-    let no_unit = of_reason(reason, one_awaits(here), no_order);
-    of_reason(reason, own.failed_ahead::<QUEUES>(incoming), no_unit)
+    match cause {
+        Cause::Step(_) => step,
+        Cause::NoSuchUnit => one_awaits(awaited(own, other.end.line.sent())),
+        Cause::NoOrder => both_await(
+            awaited(own, other.end.line.sent()),
+            awaited(other, own.end.line.sent()),
+        ),
+    }
 }
 
-// What a side waits for, if it does.
-fn awaited(own: &SideEnd, other: &SideEnd) -> Option<Awaited>
-    ensures { result ≡ spec.awaited own.now other.now }
+// What a side waits for, if it does, where the other side sent so many units.
+fn awaited(own: &Course, sent: u64) -> Option<Awaited>
+    ensures { result ≡ awaited_by own.now sent }
 {
-    let Some(hint) = own.hint_ahead() else {
+    let Ahead::Waits(entry) = own.ahead else {
         return None;
     };
-    Some(Awaited {
-        hint,
-        sent: other.sent(),
-    })
+    match entry {
+        Entry::Received { hint, .. } => Some(Awaited { hint, sent }),
+        _ => None,
+    }
 }
 
 fn one_awaits(own: Option<Awaited>) -> Option<FailedCheck>

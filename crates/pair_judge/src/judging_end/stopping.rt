@@ -1,6 +1,6 @@
 //! Where the judge of one end stops: the one loop over its capture.
 
-ghost use Rattle.std.specs.Prelude.{◌≡◌, ◌≢◌, [], Err, OnOk, IfOk, IfErr};
+ghost use Rattle.std.specs.Prelude.{◌≡◌, ◌≢◌, None, [], Err, OnOk, IfOk, IfErr};
 ghost use Rattle.wire_base.specs.Tally.{tally_faults, tally_lent};
 ghost use Rattle.wire_base.specs.declared.side.Side.{Side};
 ghost use Rattle.capture.specs.declared.fault.CaptureFault.TheVariants as CaptureFault;
@@ -15,6 +15,7 @@ ghost use Rattle.pair_judge.specs.inner.LoneEnd.{summary_of_end};
 
 use crate::course::Ahead;
 use crate::end_verdict::{Accused, EndVerdict};
+use crate::failed_check::FailedCheck;
 use crate::lone_end::{LoneEnd, MadeAlone};
 use crate::made_entry::MadeEntry;
 use crate::observer::Observer;
@@ -69,9 +70,10 @@ fn stop_end<T: Top, O: Observer, R: Read>(
     let Ok(mut end) = LoneEnd::new(alloc, &capture) else {
         return Err(CaptureFault::OutOfMemory);
     };
+    let mut failed = None;
     for number in 0..MAX_RECORDS + 1 {
         match capture.advance(a) {
-            Ok(Some(entry)) => match end.make::<T>(entry, capture.bytes()) {
+            Ok(Some(entry)) => match end.make::<T>(entry, capture.bytes(), &mut failed) {
                 Ok(MadeAlone::Done) => {
                     let Ok(()) = tell(&mut observer, entry, capture.bytes()) else {
                         return Err(CaptureFault::OutOfMemory);
@@ -79,7 +81,7 @@ fn stop_end<T: Top, O: Observer, R: Read>(
                 }
                 Ok(MadeAlone::Fails { accused, refusal }) => {
                     let verdict = refused(number, accused, refusal);
-                    return Ok((fails(verdict, entry, capture, end), observer));
+                    return Ok((fails(verdict, entry, capture, end, failed), observer));
                 }
                 Err(_) => return Err(CaptureFault::OutOfMemory),
             },
@@ -114,26 +116,34 @@ fn refused(place: u64, accused: Accused, refusal: StepRefusal) -> EndVerdict
     }
 }
 
-// The end stops with this verdict, and the record of this entry ahead.
-fn fails(verdict: EndVerdict, entry: Entry, capture: CaptureReader, end: LoneEnd) -> StoppedEnd
-    ensures { result ≡ record { verdict = verdict; capture = capture; end = end; ahead = Ahead.Waits entry } }
+// The end stops with this verdict, and the record of this entry ahead, of which this check is named.
+fn fails(
+    verdict: EndVerdict,
+    entry: Entry,
+    capture: CaptureReader,
+    end: LoneEnd,
+    failed: Option<FailedCheck>,
+) -> StoppedEnd
+    ensures { result ≡ record { verdict = verdict; capture = capture; end = end; ahead = Ahead.Waits entry; failed = failed } }
 {
     StoppedEnd {
         verdict,
         capture,
         end,
         ahead: Ahead::Waits(entry),
+        failed,
     }
 }
 
 // The end stops where all of its records were made.
 fn passes<T: Top>(capture: CaptureReader, end: LoneEnd) -> StoppedEnd
-    ensures { result ≡ record { verdict = EndVerdict.Passed (summary_of_end T.top end); capture = capture; end = end; ahead = Ahead.Ended } }
+    ensures { result ≡ record { verdict = EndVerdict.Passed (summary_of_end T.top end); capture = capture; end = end; ahead = Ahead.Ended; failed = None } }
 {
     StoppedEnd {
         verdict: EndVerdict::Passed(end.summary::<T>()),
         capture,
         end,
         ahead: Ahead::Ended,
+        failed: None,
     }
 }

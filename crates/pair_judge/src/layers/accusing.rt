@@ -92,7 +92,7 @@ fn wrong_content(packet: &[u8]) -> Option<StepRefusal>
             Err(_) => Some(StepRefusal::BadNsp),
         },
         Ok(None) => None,
-        Err(refusal) => Some(refusal),
+        Err(_) => Some(StepRefusal::BadPacket),
     }
 }
 

@@ -3,6 +3,8 @@
 ghost use Rattle.pair_judge.specs.inner.Tops.{nothing_top};
 
 use super::SideLayers;
+use super::naming::{name_arrival, name_sending};
+use crate::failed_check::FailedCheck;
 use crate::held_link::HeldLink;
 use crate::step_fault::StepFault;
 use crate::top::Top;
@@ -23,15 +25,27 @@ impl<const OF_PERIOD: bool> Top for NothingOnTop<OF_PERIOD> {
     ghost top = { nothing_top OF_PERIOD };
 
     #[inline(always)]
-    fn start_or_halt(layers: &mut SideLayers, event: StationEvent) -> Result<(), StepRefusal> {
+    fn start_or_halt(
+        layers: &mut SideLayers,
+        event: StationEvent,
+        failed: &mut Option<FailedCheck>,
+    ) -> Result<(), StepRefusal> {
+        let seen = layers.station.state();
         match layers.station.user(event) {
             Ok(()) => Ok(()),
-            Err(refusal) => Err(StepRefusal::Station(refusal)),
+            Err(refusal) => {
+                *failed = Some(FailedCheck::StationEvent { seen });
+                Err(StepRefusal::Station(refusal))
+            }
         }
     }
 
     #[inline(always)]
-    fn at_links(_layers: &mut SideLayers, _event: LinkEvent) -> Result<(), StepFault> {
+    fn at_links(
+        _layers: &mut SideLayers,
+        _event: LinkEvent,
+        _failed: &mut Option<FailedCheck>,
+    ) -> Result<(), StepFault> {
         Ok(())
     }
 
@@ -40,7 +54,11 @@ impl<const OF_PERIOD: bool> Top for NothingOnTop<OF_PERIOD> {
     }
 
     #[inline(always)]
-    fn composed(_layers: &mut SideLayers, _packet: &[u8]) -> Result<(), StepFault> {
+    fn composed(
+        _layers: &mut SideLayers,
+        _packet: &[u8],
+        _failed: &mut Option<FailedCheck>,
+    ) -> Result<(), StepFault> {
         Ok(())
     }
 
@@ -48,10 +66,17 @@ impl<const OF_PERIOD: bool> Top for NothingOnTop<OF_PERIOD> {
 
     // No packet has a tag.
     #[inline(always)]
-    fn sent(layers: &mut SideLayers, message: &Message) -> Result<UnitTag, StepFault> {
+    fn sent(
+        layers: &mut SideLayers,
+        message: &Message,
+        failed: &mut Option<FailedCheck>,
+    ) -> Result<UnitTag, StepFault> {
         let permit = match layers.station.ask_to_send(message) {
             Ok(permit) => permit,
-            Err(check) => return Err(StepFault::Refused(StepRefusal::Station(check.refusal()))),
+            Err(check) => {
+                name_sending(&layers.station, message, check, failed);
+                return Err(StepFault::Refused(StepRefusal::Station(check.refusal())));
+            }
         };
         match layers.station.send(message, permit) {
             Ok(sent) => Ok(UnitTag {
@@ -68,6 +93,7 @@ impl<const OF_PERIOD: bool> Top for NothingOnTop<OF_PERIOD> {
         arrival: Arrival,
         _link: &HeldLink,
         fate: Fate,
+        failed: &mut Option<FailedCheck>,
     ) -> Result<(), StepFault> {
         match layers
             .station
@@ -77,7 +103,10 @@ impl<const OF_PERIOD: bool> Top for NothingOnTop<OF_PERIOD> {
                 layers.station.arrive(arrival, permit.row, fate.is_kept());
                 Ok(())
             }
-            Err(check) => Err(StepFault::Refused(StepRefusal::Station(check.refusal()))),
+            Err(check) => {
+                name_arrival(&layers.station, &arrival, check, failed);
+                Err(StepFault::Refused(StepRefusal::Station(check.refusal())))
+            }
         }
     }
 
@@ -117,6 +146,8 @@ impl<const OF_PERIOD: bool> Top for NothingOnTop<OF_PERIOD> {
     fn links_begun(_layers: &SideLayers) -> u64 {
         0
     }
+
+    fn names() {}
 
     fn shows() {
         wire_nodes_see_right::<LinkTag>();

@@ -4,6 +4,7 @@ ghost use Rattle.nsp_link.specs.Kinds.{queues_of};
 ghost use Rattle.pair_judge.specs.inner.Tops.{links_top};
 
 use super::{OF_NO_LINK, SideLayers};
+use crate::failed_check::FailedCheck;
 use crate::held_link::HeldLink;
 use crate::step_fault::StepFault;
 use crate::top::Top;
@@ -26,28 +27,44 @@ impl<const OF_PERIOD: bool, const QUEUES: u8> Top for LinksOnTop<OF_PERIOD, QUEU
     ghost top = { links_top OF_PERIOD (queues_of QUEUES) };
 
     #[inline(always)]
-    fn start_or_halt(layers: &mut SideLayers, event: StationEvent) -> Result<(), StepRefusal> {
-        layers.start_or_halt(event)
+    fn start_or_halt(
+        layers: &mut SideLayers,
+        event: StationEvent,
+        failed: &mut Option<FailedCheck>,
+    ) -> Result<(), StepRefusal> {
+        layers.start_or_halt(event, failed)
     }
 
     #[inline(always)]
-    fn at_links(layers: &mut SideLayers, event: LinkEvent) -> Result<(), StepFault> {
-        layers.at_links::<QUEUES>(event)
+    fn at_links(
+        layers: &mut SideLayers,
+        event: LinkEvent,
+        failed: &mut Option<FailedCheck>,
+    ) -> Result<(), StepFault> {
+        layers.at_links::<QUEUES>(event, failed)
     }
 
     fn boot(layers: &mut SideLayers) {
         layers.boot::<QUEUES>();
     }
 
-    fn composed(layers: &mut SideLayers, packet: &[u8]) -> Result<(), StepFault> {
-        layers.composed::<QUEUES>(packet)
+    fn composed(
+        layers: &mut SideLayers,
+        packet: &[u8],
+        failed: &mut Option<FailedCheck>,
+    ) -> Result<(), StepFault> {
+        layers.composed::<QUEUES>(packet, failed)
     }
 
     fn carries() {}
 
     #[inline(always)]
-    fn sent(layers: &mut SideLayers, message: &Message) -> Result<UnitTag, StepFault> {
-        layers.sent::<QUEUES>(message)
+    fn sent(
+        layers: &mut SideLayers,
+        message: &Message,
+        failed: &mut Option<FailedCheck>,
+    ) -> Result<UnitTag, StepFault> {
+        layers.sent::<QUEUES>(message, failed)
     }
 
     #[inline(always)]
@@ -56,8 +73,9 @@ impl<const OF_PERIOD: bool, const QUEUES: u8> Top for LinksOnTop<OF_PERIOD, QUEU
         arrival: Arrival,
         link: &HeldLink,
         fate: Fate,
+        failed: &mut Option<FailedCheck>,
     ) -> Result<(), StepFault> {
-        layers.arrived::<OF_PERIOD, true, QUEUES>(arrival, link, fate)
+        layers.arrived::<OF_PERIOD, true, QUEUES>(arrival, link, fate, failed)
     }
 
     fn arrived_unknown(
@@ -65,7 +83,9 @@ impl<const OF_PERIOD: bool, const QUEUES: u8> Top for LinksOnTop<OF_PERIOD, QUEU
         arrival: Arrival,
         fate: Fate,
     ) -> Result<(), StepFault> {
-        layers.arrived::<false, false, QUEUES>(arrival, &HeldLink::new(&Some(OF_NO_LINK)), fate)
+        let link = HeldLink::new(&Some(OF_NO_LINK));
+        let mut unnamed = None;
+        layers.arrived::<false, false, QUEUES>(arrival, &link, fate, &mut unnamed)
     }
 
     fn may_arrive_unknown(
@@ -87,6 +107,8 @@ impl<const OF_PERIOD: bool, const QUEUES: u8> Top for LinksOnTop<OF_PERIOD, QUEU
     fn links_begun(layers: &SideLayers) -> u64 {
         layers.links_begun()
     }
+
+    fn names() {}
 
     fn shows() {
         wire_layers_see_right();

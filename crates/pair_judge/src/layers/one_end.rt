@@ -53,7 +53,7 @@ impl SideLayers {
         match content(packet) {
             Ok(Some(carried)) => self.may_take_unknown::<QUEUES>(carried),
             Ok(None) => Ok(()),
-            Err(refusal) => Err(refusal),
+            Err(_) => Err(StepRefusal::BadPacket),
         }
     }
 
