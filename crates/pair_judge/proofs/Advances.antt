@@ -16,10 +16,11 @@ use Rattle.dna_node.specs.WireLayers.{WireLayers, LayersTag, WireLayersNode, Wir
 use Rattle.dna_station.specs.Machine.{does}
 use Rattle.pair_judge.specs.declared.line.Line.{Line}
 use Rattle.pair_judge.specs.declared.end.End.{End}
+use Rattle.pair_judge.specs.FailedCheck.{failed_record}
 use Rattle.pair_judge.specs.inner.Lines.{held, Shows}
 use Rattle.pair_judge.specs.inner.Receipts.{IsReceived, came, node_at, node_of, layers_move}
 use Rattle.pair_judge.specs.inner.Steps.{IsSent, IsNotSent}
-use Rattle.pair_judge.specs.inner.Entering.{IsEntered, IsNotEntered}
+use Rattle.pair_judge.specs.inner.Entering.{IsEntered, IsNotEntered, failed_event}
 use Rattle.pair_judge.specs.inner.Making.{IsMade, StandsFor, move}
 use Rattle.pair_judge.specs.Summary.{counted}
 use Rattle.pair_judge.specs.inner.Wire.{JudgeHalf, judge_receives, judge_sent_step, judge_step, JudgeTop}
@@ -30,6 +31,12 @@ state_is own incoming mine stands =
     ap (λ (h : Head). node_at h mine.state.station mine.state.front) stands.head
     ∙ ap (λ (l : WireLayers). node_at own.head l mine.state.front) stands.layers
     ∙ ap (node_at own.head own.layers) stands.front
+
+-- the check that an event does not pass
+pub event_named : (top : JudgeTop) (layers : WireLayers) (front : ℕ) (units : List WireLayersUnit) (r : Record) (refusal : StepRefusal) →
+    IsNotEntered top layers r refusal → failed_event top layers r ≡ failed_record top.checks layers front units r
+event_named top layers front units (User event) refusal refuses = refl
+event_named top layers front units r refusal refuses = absurd refuses
 
 -- the line after one more unit was sent
 pub pushed : (before after : Line) (sent : List WireLayersUnit) (unit : WireLayersUnit) → Shows before sent → after.gone ≡ before.gone →

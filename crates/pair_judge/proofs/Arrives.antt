@@ -21,7 +21,7 @@ use Rattle.pair_judge.specs.inner.Steps.{IfRefused, with_link}
 use Rattle.pair_judge.proofs.FailedAsRefused.{without_link}
 
 -- a packet is taken only where it is kept
-taken_kept : (t k : Bool) (body packet : List ℕ) → cond (t && k) (Some body) None ≡ Some packet → (k ≡ true) × (body ≡ packet)
+pub taken_kept : (t k : Bool) (body packet : List ℕ) → cond (t && k) (Some body) None ≡ Some packet → (k ≡ true) × (body ≡ packet)
 taken_kept true true body packet e = (refl, cc)
 taken_kept true false body packet e = absurd (cc)
 taken_kept false true body packet e = absurd (cc)

@@ -30,13 +30,13 @@ use Rattle.ddcmp_station.specs.View.{true_view, view_of}
 use Rattle.pair_judge.specs.declared.course.Ahead.{Ahead}
 use Rattle.pair_judge.specs.declared.course.Ahead.TheVariants.{Unread, Waits, Ended}
 use Rattle.pair_judge.specs.declared.course.Course.{Course}
+use Rattle.pair_judge.specs.declared.failed_check.FailedCheck.{FailedCheck}
 use Rattle.pair_judge.specs.declared.line.Line.{Line}
 use Rattle.pair_judge.specs.declared.stopped.Stopped.{Stopped}
 use Rattle.pair_judge.specs.declared.summary.Summary.{Summary}
 use Rattle.pair_judge.specs.declared.summary.SideSummary.{SideSummary}
 use Rattle.pair_judge.specs.Ends.{NodeHalf, NodeWorld, ShowsNode, StandsFor, StandsThere, record_ahead}
 use Rattle.pair_judge.specs.Ends as ends
-use Rattle.pair_judge.specs.FailedIn.{IsFirstOf, NamesOne, NamesOneBy, checks_at, hint_of}
 use Rattle.pair_judge.specs.Finding.{of_side}
 use Rattle.pair_judge.specs.Heads.{head_of}
 use Rattle.pair_judge.specs.Reason.{reason_of}
@@ -51,9 +51,8 @@ use Rattle.pair_judge.specs.Order.{MadeRecord, records_of}
 use Rattle.pair_judge.specs.Watched.{WasTold}
 use Rattle.pair_judge.specs.inner.Runs.{tag_of}
 use Rattle.pair_judge.specs.inner.Stopped.{IsStoppedIn, ends_of, found_of}
-use Rattle.pair_judge.specs.inner.Tops.{links_on_top, links_on_top_by}
+use Rattle.pair_judge.specs.inner.Tops.{links_on_top}
 use Rattle.pair_judge.specs.inner.Wire.{JudgeHalf, JudgeTop, JudgeWorld}
-use Rattle.pair_judge.proofs.FailsThere.{cause_there, fails_same, order_named, step_named, unit_named, waits_by_hint}
 use Rattle.pair_judge.proofs.Runs.{length-units_from}
 use Rattle.pair_judge.proofs.Seen.{SeesRight, shown, shown_by, shown_is_cut}
 
@@ -101,9 +100,9 @@ pub record EndLaws : Type 1 where
 
 -- ---- an end shows the half that it stands for
 
-node_shown : EndLaws → (own : Course) (incoming : Line) (w : JudgeHalf) (half : NodeHalf) → StandsForHalf own.end incoming w →
-    ShowsHalf links_on_top w half → IsOrdered half.state.station.station → ShowsNode (shown_end own incoming.gone) half
-node_shown laws own incoming w half stands shows ordered =
+node_shown : EndLaws → (own : Course) (incoming : Line) (check : Option FailedCheck) (w : JudgeHalf) (half : NodeHalf) → StandsForHalf own.end incoming w →
+    ShowsHalf links_on_top w half → IsOrdered half.state.station.station → ShowsNode (shown_end own incoming.gone check) half
+node_shown laws own incoming check w half stands shows ordered =
     let line = own.end.line in
     let layers : own.end.layers ≡ cut_layers half.state.station = sym stands.layers ∙ shows.station in
     let items = length-units_from (tag_of line.tags) line.gone line.units.items in
@@ -163,57 +162,6 @@ module _ (top : JudgeTop)
         (x.world, run_there (records_of A done) (records_of B done) x.world x.run);
   }
 
--- ---- a check of the reason fails where the judge stops
-
-module _ (queues : Queues) (text_a text_b : Option (List ℕ)) (tells : List MadeRecord → Type 0) (s : Stopped)
-    (i : IsStoppedIn (links_on_top_by queues) text_a text_b tells s) where
-  abbrev of_a : Track
-  of_a = along text_a s.a i.come_a i.made_a
-
-  abbrev of_b : Track
-  of_b = along text_b s.b i.come_b i.made_b
-
-  named_at : (side : Side) (place : ℕ) (cause : Cause) → StopsAt (links_on_top_by queues) of_a of_b side place cause →
-      ¬ IsFirstOf (reason_of cause) (checks_at queues side (ends_of (links_on_top_by queues) s)) None
-  named_at A place (Step refusal) q =
-      let h = q.reached in
-      step_named queues (shown_end s.a s.b.end.line.gone) (shown_end s.b s.a.end.line.gone) (held s.b.end.line) q.next refusal
-      (is_ahead s.a.capture.bytes s.a.ahead q.next q.ahead)
-      (fails_same queues s.a.end s.b.end.line h.world.a h.world.b h.stands_a h.stands_b.sent q.next ∙ ap cause_there q.becomes)
-  named_at B place (Step refusal) q =
-      let h = q.reached in
-      step_named queues (shown_end s.b s.a.end.line.gone) (shown_end s.a s.b.end.line.gone) (held s.a.end.line) q.next refusal
-      (is_ahead s.b.capture.bytes s.b.ahead q.next q.ahead)
-      (fails_same queues s.b.end s.a.end.line h.world.b h.world.a h.stands_b h.stands_a.sent q.next ∙ ap cause_there q.becomes)
-  named_at A place NoSuchUnit q =
-      let w = waits_by_hint queues q.reached.world.a q.reached.world.b q.next q.becomes in
-      unit_named queues (shown_end s.a s.b.end.line.gone) (shown_end s.b s.a.end.line.gone) (held s.b.end.line) w.0
-      (ap hint_of (is_ahead s.a.capture.bytes s.a.ahead q.next q.ahead) ∙ w.1)
-  named_at B place NoSuchUnit q =
-      let w = waits_by_hint queues q.reached.world.b q.reached.world.a q.next q.becomes in
-      unit_named queues (shown_end s.b s.a.end.line.gone) (shown_end s.a s.b.end.line.gone) (held s.a.end.line) w.0
-      (ap hint_of (is_ahead s.b.capture.bytes s.b.ahead q.next q.ahead) ∙ w.1)
-  named_at A place NoOrder q =
-      let w = waits_by_hint queues q.reached.world.a q.reached.world.b q.next q.becomes in
-      let far = waits_by_hint queues q.reached.world.b q.reached.world.a q.other.0 q.other.2 in
-      order_named queues (shown_end s.a s.b.end.line.gone) (shown_end s.b s.a.end.line.gone) (held s.b.end.line) w.0 far.0
-      (ap hint_of (is_ahead s.a.capture.bytes s.a.ahead q.next q.ahead) ∙ w.1)
-      (ap hint_of (is_ahead s.b.capture.bytes s.b.ahead q.other.0 q.other.1) ∙ far.1)
-  named_at B place NoOrder q =
-      let w = waits_by_hint queues q.reached.world.b q.reached.world.a q.next q.becomes in
-      let far = waits_by_hint queues q.reached.world.a q.reached.world.b q.other.0 q.other.2 in
-      order_named queues (shown_end s.b s.a.end.line.gone) (shown_end s.a s.b.end.line.gone) (held s.a.end.line) w.0 far.0
-      (ap hint_of (is_ahead s.b.capture.bytes s.b.ahead q.next q.ahead) ∙ w.1)
-      (ap hint_of (is_ahead s.a.capture.bytes s.a.ahead q.other.0 q.other.1) ∙ far.1)
-
-  pub named_there : NamesOne queues (ends_of (links_on_top_by queues) s)
-  named_there = by_finding s.finding _ i.stops
-    where
-      by_finding : (finding : Finding) (summary : Summary) → StopsFor (links_on_top_by queues) of_a of_b finding →
-          NamesOneBy queues (ends_of (links_on_top_by queues) s) (answer_of finding summary)
-      by_finding Accepted summary stops = tt
-      by_finding (Refused side place cause) summary stops = named_at side place cause stops
-
 -- ---- where the judge stops
 
 module _ (laws : EndLaws) (text_a text_b : Option (List ℕ)) (tells : List MadeRecord → Type 0) (s : Stopped)
@@ -237,7 +185,7 @@ module _ (laws : EndLaws) (text_a text_b : Option (List ℕ)) (tells : List Made
 
   ahead_is : (side : Side) (next : Record) →
       IsWaiting (of_side side track_a track_b).course.capture.bytes (of_side side track_a track_b).course.ahead next →
-      (of_side side (shown_end s.a s.b.end.line.gone) (shown_end s.b s.a.end.line.gone)).ahead ≡ Some next
+      (of_side side (ends_of links_on_top s).a (ends_of links_on_top s).b).ahead ≡ Some next
   ahead_is A next w = is_ahead s.a.capture.bytes s.a.ahead next w
   ahead_is B next w = is_ahead s.b.capture.bytes s.b.ahead next w
 
@@ -276,9 +224,9 @@ module _ (laws : EndLaws) (text_a text_b : Option (List ℕ)) (tells : List Made
         cause = cause;
         is_reason = refl;
         becomes = becomes_at side cause q.next h.world x q.becomes;
-        shows_a = node_shown laws s.a s.b.end.line h.world.a x.world.a h.stands_a x.shows_a
+        shows_a = node_shown laws s.a s.b.end.line _ h.world.a x.world.a h.stands_a x.shows_a
             (laws.ordered_a s.a.end.head s.b.end.head x.world i.made_a i.made_b x.run);
-        shows_b = node_shown laws s.b s.a.end.line h.world.b x.world.b h.stands_b x.shows_b
+        shows_b = node_shown laws s.b s.a.end.line _ h.world.b x.world.b h.stands_b x.shows_b
             (laws.ordered_b s.a.end.head s.b.end.head x.world i.made_a i.made_b x.run);
         to_a = units_shown s.b.end.line x.world.a.state.front h.world.b.sent x.world.b.sent h.stands_b.sent
             (ap (λ (w : JudgeWorld). w.b.sent) is_cut) (sym h.stands_a.front ∙ x.shows_a.front);

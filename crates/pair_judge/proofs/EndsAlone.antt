@@ -42,7 +42,7 @@ module _ (top : JudgeTop) (text : Option (List ℕ)) (tells : List MadeRecord �
       (ends (head_of i.read) i.made)
 
   stops_with : (verdict : EndVerdict) → StopsThere top s verdict →
-      StopsWith top.end (shown_lone s.capture s.end s.ahead) ends_there.0 verdict
+      StopsWith top.end (shown_lone s.capture s.end s.ahead s.failed) ends_there.0 verdict
   stops_with (Passed summary) ended = ap (record_ahead s.capture.bytes) ended
   stops_with (Refused place accused reason) r = (
     r.place_is,
@@ -55,7 +55,7 @@ module _ (top : JudgeTop) (text : Option (List ℕ)) (tells : List MadeRecord �
     },
   )
 
-  pub stands_alone : StandsAlone top.end text (shown_lone s.capture s.end s.ahead) s.verdict tells
+  pub stands_alone : StandsAlone top.end text (shown_lone s.capture s.end s.ahead s.failed) s.verdict tells
   stands_alone = record {
     read = i.read;
     from = i.from;

@@ -27,19 +27,20 @@ use Rattle.dna_station.specs.declared.state.StationEvent.TheVariants.{Start, Hal
 use Rattle.dna_station.specs.declared.tag.Tag.{Tag}
 use Rattle.dna_station.specs.Book.{ArrivalValue, Sound, HeaderBad, DataBad, body_of}
 use Rattle.dna_station.specs.Machine.{unless_refused}
-use Rattle.dna_station.specs.PeriodRule.{of_period}
+use Rattle.dna_station.specs.PeriodRule.{PeriodRule, of_period}
 use Rattle.dna_station.specs.Table.{user_refusal}
 use Rattle.dna_station.specs.WireBook.{gives_new, wire_book, wire_sending_refusal, wire_after_sending, wire_arrival_refusal, wire_after_arrival}
 use Rattle.dna_station.specs.WireStation.{WireStation}
 use Rattle.dna_links.specs.declared.queue.Queues.{Queues}
 use Rattle.dna_links.specs.declared.tag.LinkTag.{LinkTag}
+use Rattle.dna_links.specs.Arriving.{of_partner}
 use Rattle.dna_links.specs.Links.{Carried}
 use Rattle.dna_links.specs.User.{LinkEventValue, Open, Accept, Reject, In, Up, Close, Abort, Boot}
 use Rattle.dna_links.specs.WireLinks.{wire_links_arrived, wire_links_sent, wire_links_user}
 use Rattle.dna_node.specs.declared.finding.Cause.{Cause}
 use Rattle.dna_node.specs.declared.finding.Cause.TheVariants.{Step}
 use Rattle.dna_node.specs.Content.{content, content_of, is_returned, message_in}
-use Rattle.dna_node.specs.TagRules.{judged_by}
+use Rattle.dna_node.specs.TagRules.{Rules, judged_by}
 use Rattle.dna_node.specs.WireLayers.{LayersTag, WireLayers, tag_or_none, to_wire_station, wire_keeps, wire_keeps_packet, wire_layers_machine}
 use Rattle.dna_node.specs.WireLayers.{wire_composes, wire_meets_on, with_wire_composed, wire_sends_again}
 use Rattle.dna_node.specs.WireLayers.{wire_sends_first, wire_sends_on, with_tag, with_wire_links, with_wire_station}
@@ -52,7 +53,7 @@ use Rattle.nsp_link.proofs.FailedArrival.{arrival_same as link_arrival_same}
 use Rattle.nsp_link.proofs.FailedEvent.{event_same}
 use Rattle.nsp_link.proofs.FailedSending.{sending_same}
 use Rattle.pair_judge.specs.FailedCheck.{lent_of, carried, cause_in, cause_of}
-use Rattle.pair_judge.specs.FailedCheck.{failed_arrival, failed_at_links, failed_composed, failed_first, failed_kept}
+use Rattle.pair_judge.specs.FailedCheck.{failed_arrival, failed_arrival_by, failed_at_links, failed_at_partner, failed_composed, failed_first, failed_kept}
 use Rattle.pair_judge.specs.FailedCheck.{failed_lent, failed_message, failed_nsp, failed_packet, failed_start, failed_user}
 use Rattle.pair_judge.specs.inner.Steps.{with_link}
 use Rattle.pair_judge.specs.declared.failed_check.FailedCheck.{FailedCheck}
@@ -147,42 +148,49 @@ message_same queues s m =
 
 -- ---- an arrival
 
-kept_same : (queues : Queues) (s : WireLayers) (after : WireStation LinkTag) (arrival : ArrivalValue LayersTag) →
-    caused (failed_kept s arrival) ≡ cause_in (wire_keeps (judged_by queues) (record s { station = after }) arrival)
-kept_same queues s after (Sound m known) =
-    packet_same (λ packet. option_map LinkArrival (arrives.failed_arrival s.links packet (tag_or_none known.link)))
-    (wire_keeps_packet (judged_by queues) (record s { station = after }) (tag_or_none known.link)) refl (λ refusal. refl)
-    (λ packet. linked_same LinkArrival arrives.refusal_of_arrival (with_wire_links (record s { station = after })) (λ failed. refl) (λ made. refl)
-    (λ refusal. refl) (arrives.failed_arrival s.links packet (tag_or_none known.link))
-    (wire_links_arrived queues (judged_by queues).partners s.links packet (tag_or_none known.link))
-    (link_arrival_same queues s.links packet (tag_or_none known.link)))
-    (body_of m)
-kept_same queues s after HeaderBad = refl
-kept_same queues s after DataBad = refl
+module _ (periods : PeriodRule) (queues : Queues) (s : WireLayers) where
+  abbrev rules : Rules
+  rules = record { periods = periods; partners = of_partner; queues = queues }
 
-met_same : (queues : Queues) (s : WireLayers) (arrival : ArrivalValue LayersTag) (fate : Fate) (after : WireStation LinkTag) →
-    caused (cond (is_met fate) (failed_kept s arrival) None) ≡ cause_in (wire_meets_on (judged_by queues) s arrival fate (Ok after))
-met_same queues s arrival Kept after = kept_same queues s after arrival
-met_same queues s arrival fate after = refl
+  kept_same : (after : WireStation LinkTag) (arrival : ArrivalValue LayersTag) →
+      caused (failed_kept of_partner s arrival) ≡ cause_in (wire_keeps rules (record s { station = after }) arrival)
+  kept_same after (Sound m known) =
+      packet_same (failed_at_partner of_partner s.links (tag_or_none known.link))
+      (wire_keeps_packet rules (record s { station = after }) (tag_or_none known.link)) refl (λ refusal. refl)
+      (λ packet. linked_same LinkArrival arrives.refusal_of_arrival (with_wire_links (record s { station = after })) (λ failed. refl) (λ made. refl)
+      (λ refusal. refl) (arrives.failed_arrival s.links packet (tag_or_none known.link))
+      (wire_links_arrived queues of_partner s.links packet (tag_or_none known.link))
+      (link_arrival_same queues s.links packet (tag_or_none known.link)))
+      (body_of m)
+  kept_same after HeaderBad = refl
+  kept_same after DataBad = refl
 
-arrival_by : (queues : Queues) (s : WireLayers) (arrival : ArrivalValue LayersTag) (fate : Fate) (after : WireStation LinkTag)
-    (o : Option FailedArrival)
-    (p : Option StationRefusal) → option_map of_station.refusal_of_arrival o ≡ p →
-    caused (or_next (option_map StationArrival o) (cond (is_met fate) (failed_kept s arrival) None)) ≡
-    cause_in (wire_meets_on (judged_by queues) s arrival fate (unless_refused p after))
-arrival_by queues s arrival fate after (Some failed) p same =
-    ap (λ (q : Option StationRefusal). cause_in (wire_meets_on (judged_by queues) s arrival fate (unless_refused q after))) same
-arrival_by queues s arrival fate after None p same =
-    met_same queues s arrival fate after
-    ∙ ap (λ (q : Option StationRefusal). cause_in (wire_meets_on (judged_by queues) s arrival fate (unless_refused q after))) same
+  met_same : (arrival : ArrivalValue LayersTag) (fate : Fate) (after : WireStation LinkTag) →
+      caused (cond (is_met fate) (failed_kept of_partner s arrival) None) ≡ cause_in (wire_meets_on rules s arrival fate (Ok after))
+  met_same arrival Kept after = kept_same after arrival
+  met_same arrival fate after = refl
+
+  arrival_by : (arrival : ArrivalValue LayersTag) (fate : Fate) (after : WireStation LinkTag) (o : Option FailedArrival) (p : Option StationRefusal) →
+      option_map of_station.refusal_of_arrival o ≡ p →
+      caused (or_next (option_map StationArrival o) (cond (is_met fate) (failed_kept of_partner s arrival) None)) ≡
+      cause_in (wire_meets_on rules s arrival fate (unless_refused p after))
+  arrival_by arrival fate after (Some failed) p same =
+      ap (λ (q : Option StationRefusal). cause_in (wire_meets_on rules s arrival fate (unless_refused q after))) same
+  arrival_by arrival fate after None p same =
+      met_same arrival fate after
+      ∙ ap (λ (q : Option StationRefusal). cause_in (wire_meets_on rules s arrival fate (unless_refused q after))) same
+
+  pub arrival_so : (arrival : ArrivalValue LayersTag) (fate : Fate) →
+      caused (failed_arrival_by periods of_partner s arrival fate) ≡ cause_in ((wire_layers_machine rules).arrives s arrival fate)
+  arrival_so arrival fate =
+      arrival_by arrival fate (wire_after_arrival s.station (to_wire_station arrival) (is_kept fate))
+      (of_station.failed_arrival periods s.station (to_wire_station arrival) (is_kept fate))
+      (wire_arrival_refusal periods s.station (to_wire_station arrival) (is_kept fate))
+      (station_arrival_same periods s.station (to_wire_station arrival) (is_kept fate))
 
 pub arrival_same : (queues : Queues) (s : WireLayers) (arrival : ArrivalValue LayersTag) (fate : Fate) →
     caused (failed_arrival s arrival fate) ≡ cause_in ((wire_layers_machine (judged_by queues)).arrives s arrival fate)
-arrival_same queues s arrival fate =
-    arrival_by queues s arrival fate (wire_after_arrival s.station (to_wire_station arrival) (is_kept fate))
-    (of_station.failed_arrival of_period s.station (to_wire_station arrival) (is_kept fate))
-    (wire_arrival_refusal (judged_by queues).periods s.station (to_wire_station arrival) (is_kept fate))
-    (station_arrival_same of_period s.station (to_wire_station arrival) (is_kept fate))
+arrival_same queues s arrival fate = arrival_so of_period queues s arrival fate
 
 -- ---- the user
 

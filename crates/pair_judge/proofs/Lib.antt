@@ -5,6 +5,7 @@ pub mod Composes
 pub mod Packets
 pub mod FailedAsRefused
 pub mod Arrives
+pub mod Naming
 pub mod AcksAlone
 pub mod LineEnds
 pub mod LoneEnds
@@ -34,5 +35,7 @@ pub mod Unasked
 pub mod UnaskedLayers
 pub mod FirstFailed
 pub mod FailsThere
+pub mod NamesRefusals
 pub mod Ends
+pub mod NamesThere
 pub mod EndsAlone

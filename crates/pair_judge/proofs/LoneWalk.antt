@@ -1,5 +1,5 @@
 -- One end alone along its capture: what was read, what was made of it, and what an answer then says.
-use Rattle.std.proofs.Common.{◌≡◌, ℕ, ◌+◌, ◌<◌, ◌≤◌, ◌^◌, inl, inr, List, [], ◌∷◌, ◌++◌, length, Option, Some, Ok, Err, refl, sym, ap, ap₂, subst}
+use Rattle.std.proofs.Common.{◌≡◌, ℕ, ◌+◌, ◌<◌, ◌≤◌, ◌^◌, inl, inr, List, [], ◌∷◌, ◌++◌, length, Option, Some, None, Ok, Err, refl, sym, ap, ap₂, subst}
 use Rattle.std.proofs.Common.{◌∙◌}
 use Rattle.std.proofs.Common.{arith, length-append, append-nil, append_assoc}
 use Rattle.std.proofs.lemmas.List.Sums.{count_by-le-length}
@@ -26,11 +26,13 @@ use Rattle.pair_judge.specs.declared.course.Ahead.TheVariants.{Waits, Ended}
 use Rattle.pair_judge.specs.declared.end_verdict.Accused.{Accused}
 use Rattle.pair_judge.specs.declared.end_verdict.EndVerdict.TheVariants as verdicts
 use Rattle.pair_judge.specs.declared.end_verdict.EndVerdict.TheVariants.{Refused}
+use Rattle.pair_judge.specs.declared.failed_check.FailedCheck.{FailedCheck}
 use Rattle.pair_judge.specs.declared.lone_end.LoneEnd.{LoneEnd}
 use Rattle.pair_judge.specs.declared.reason.Reason.{Reason}
 use Rattle.pair_judge.specs.declared.summary.SideSummary.{SideSummary}
 use Rattle.pair_judge.specs.Counting.{is_damaged, is_delivery, is_kept, is_received, is_start}
 use Rattle.pair_judge.specs.EndJudged.{HasPassed, IsEndAnswer, IsRefusedAlone, accused_view}
+use Rattle.pair_judge.specs.FailedIn.{IsFirstOf, checks_alone}
 use Rattle.pair_judge.specs.Reason.{reason_of_step}
 use Rattle.pair_judge.specs.Summary.{HasRoomFor, counts_of, counted}
 use Rattle.pair_judge.specs.EndShown.{told_alone}
@@ -150,8 +152,10 @@ module _ (top : JudgeTop) where
         (refusal : StepRefusal) → record_with entry new.bytes ≡ r → reason ≡ reason_of_step refusal →
         step_alone top.alone (node_of_end end) r ≡ Refuses (accused_view accused) refusal →
         ((head : Head) (records : List Record) → EndsAlike top head records) → tells (told_alone h.records) → end' ≡ end →
-        IsEndStopped top text tells (record { verdict = Refused number accused reason; capture = new; end = end'; ahead = Waits entry })
-    stopped_at tells entry end' accused reason refusal is_entry named is ends told same = record {
+        (failed : Option FailedCheck) →
+        IsFirstOf reason (checks_alone top.checks end'.layers end'.front (Some (record_with entry new.bytes))) failed →
+        IsEndStopped top text tells (record { verdict = Refused number accused reason; capture = new; end = end'; ahead = Waits entry; failed = failed })
+    stopped_at tells entry end' accused reason refusal is_entry named is ends told same failed names = record {
       answer = refused_at accused reason refusal named is ends;
       read = so_far new.form new.own new.peer (h.records ++ r ∷ []) (ToCome after);
       from = read_on;
@@ -172,6 +176,7 @@ module _ (top : JudgeTop) where
               refused = subst (λ (e : LoneEnd). step_alone top.alone (node_of_end e) r ≡ Refuses (accused_view accused) refusal) (sym same) is;
             };
           };
+      names = names;
     }
 
   -- ---- all that was read was made
@@ -195,7 +200,7 @@ module _ (top : JudgeTop) where
 
     pub stopped_ended : (laws : GrowingLaws) (tells : List MadeRecord → Type 0) (new : CaptureState) (summary : SideSummary) → IsAtEnd come →
         summary ≡ summary_of_end top end → tells (told_alone h.records) →
-        IsEndStopped top text tells (record { verdict = verdicts.Passed summary; capture = new; end = end; ahead = Ended })
+        IsEndStopped top text tells (record { verdict = verdicts.Passed summary; capture = new; end = end; ahead = Ended; failed = None })
     stopped_ended laws tells new summary at_end is told = record {
       answer = passed laws summary at_end is;
       read = so_far capture.form capture.own capture.peer h.records TheEnd;
@@ -208,6 +213,7 @@ module _ (top : JudgeTop) where
         counts = h.counts;
         stops = refl;
       };
+      names = tt;
     }
 
     pub fault_at : (fault : CaptureFault) → FaultShows (RecordDeparts capture.form capture.records) (capture.records + 2) come fault →

@@ -1,27 +1,22 @@
 //! The judge of one end: one capture in one pass, without the other.
 
-ghost use Rattle.std.specs.Prelude.{◌≢◌, [], IfOk, IfErr};
+ghost use Rattle.std.specs.Prelude.{◌≢◌, false, [], IfOk, IfErr};
 ghost use Rattle.wire_base.specs.Tally.{tally_faults, tally_lent};
 ghost use Rattle.capture.specs.declared.fault.CaptureFault.TheVariants as CaptureFault;
 ghost use Rattle.capture.specs.Faulty.{CountsReads, is_failed_read};
-ghost use Rattle.dna_station.specs.PeriodRule.{of_period};
 ghost use Rattle.pair_judge.specs.FailedIn.{IsNamedAlone};
-ghost use Rattle.pair_judge.specs.JudgedAs.{checks_of, end_of};
-ghost use Rattle.pair_judge.specs.inner.EndStopped.{StopsThere, shown_lone};
+ghost use Rattle.pair_judge.specs.JudgedAs.{checks_by, end_of};
 ghost use Rattle.pair_judge.specs.EndJudged.{IsJudgedAlone};
 ghost use Rattle.pair_judge.specs.EndShown.{StandsAlone};
 ghost use Rattle.pair_judge.specs.Watched.{only};
 
 mod stopping;
 
-use crate::course::Ahead;
 use crate::end_verdict::EndVerdict;
 use crate::judged_as::Layers;
-use crate::failed_check::FailedCheck;
 use crate::layers::{LinksOnTop, NothingOnTop};
 use crate::observer::Observer;
-use crate::side_end::{SideEnd, named_alone};
-use crate::stopped_end::StoppedEnd;
+use crate::side_end::SideEnd;
 use crate::top::Top;
 use capture::CaptureFault;
 use nsp_link::{WITH_QUEUES, WITHOUT_QUEUES};
@@ -83,7 +78,7 @@ pub fn judge_end<O: Observer, R: Read>(
     ensures judged { IsJudgedAlone (end_of layers) (R.remaining (tally_lent a.old)) (only result (λ watched. watched.verdict)) }
     ensures stands { IfOk result (λ watched.
         StandsAlone (end_of layers) (R.remaining (tally_lent a.old)) watched.end watched.verdict (O.told watched.observer)) }
-    ensures fails { IfOk result (λ watched. IsNamedAlone (checks_of layers of_period) watched.end watched.verdict) }
+    ensures fails { IfOk result (λ watched. IsNamedAlone (checks_by layers false) watched.end watched.verdict) }
     ensures first { IfErr result (λ fault. fault ≢ CaptureFault.Failed) }
     ensures reads { CountsReads (is_failed_read result) (tally_faults a.old) (tally_faults a.new) }
 {
@@ -112,8 +107,12 @@ fn watch_end<T: Top, O: Observer, R: Read>(
     match decide_end::<T, O, R>(alloc, a, observer) {
         Ok((stopped, observer)) => {
             let verdict = stopped.verdict;
-            let failed = named_at::<T>(&stopped);
-            let end = SideEnd::alone(stopped.capture, stopped.end, stopped.ahead, failed);
+            let end = SideEnd::alone(
+                stopped.capture,
+                stopped.end,
+                stopped.ahead,
+                stopped.failed,
+            );
             Ok(WatchedEnd {
                 verdict,
                 end,
@@ -122,29 +121,4 @@ fn watch_end<T: Top, O: Observer, R: Read>(
         }
         Err(fault) => Err(fault),
     }
-}
-
-// The check that is named of the record ahead.
-fn named_at<T: Top>(stopped: &StoppedEnd) -> Option<FailedCheck>
-    requires { StopsThere T.top stopped.now stopped.now.verdict }
-    ensures { IsNamedAlone T.top.checks (shown_lone stopped.now.capture stopped.now.end stopped.now.ahead result) stopped.now.verdict }
-{
-    let EndVerdict::Refused {
-        place: _,
-        accused: _,
-        reason,
-    } = stopped.verdict
-    else {
-        return None;
-    };
-    let Ahead::Waits(entry) = stopped.ahead else {
-        unreachable!();
-    };
-    named_alone::<T>(
-        reason,
-        &stopped.end,
-        entry,
-        stopped.capture.bytes(),
-        stopped.failed,
-    )
 }

@@ -1,11 +1,12 @@
 //! One end whose other side is not known, as far as the judge has gone along its capture.
 
-ghost use Rattle.std.specs.Prelude.{◌≡◌, ◌+◌, ◌≤◌, [], IfOk};
+ghost use Rattle.std.specs.Prelude.{◌≡◌, ◌+◌, ◌≤◌, [], Option, IfOk};
 ghost use Rattle.capture_record.specs.declared.record.Record.TheVariants as Record;
 ghost use Rattle.capture_record.specs.Entries.{record_with};
 ghost use Rattle.capture_record.specs.Range.{NumbersFit};
 ghost use Rattle.capture_record.specs.declared.limit.TheConstants.{MAX_HINT};
 ghost use Rattle.dna_node.specs.WireLayers.{new_wire_layers_node};
+ghost use Rattle.pair_judge.specs.declared.failed_check.FailedCheck.{FailedCheck as Check};
 ghost use Rattle.pair_judge.specs.Summary.{counts_of};
 ghost use Rattle.pair_judge.specs.inner.LoneEnd.{HasRoomAlone, IfFailsAlone, MadeAloneIs, NamesOwn, head_in, node_of_end, summary_of_end};
 ghost use Rattle.pair_judge.specs.inner.Making.{IsEvent};
@@ -139,6 +140,8 @@ impl LoneEnd {
         requires room { HasRoomAlone self.old }
         requires hint { hint ≤ MAX_HINT }
         ensures made { IfOk result (λ made. MadeAloneIs T.top made self.old self.new (Record.Received hint fate bytes.now)) }
+        ensures named { (failed : Option Check) → IfOk result (λ made. IfFailsAlone made (NamesOwn T.top (Record.Received hint fate bytes.now) self.old
+            failed)) }
         ensures still { IfOk result (λ made. IfFailsAlone made (self.new ≡ self.old)) }
     {
         if hint < self.front {

@@ -13,6 +13,6 @@ pub struct StoppedEnd {
     pub capture: CaptureReader,
     pub end: LoneEnd,
     pub ahead: Ahead,
-    /// Where the record ahead is refused and is no receipt, the check that it does not pass.
+    /// Where the record ahead is refused, the check that it does not pass, if one is named.
     pub failed: Option<FailedCheck>,
 }

@@ -1,5 +1,5 @@
 -- What is printed where one end is told, and where there was no memory for the text.
-use Rattle.std.proofs.Common.{◌≡◌, ℕ, List, Option, Result, Ok, Err, inl, inr, sym, subst}
+use Rattle.std.proofs.Common.{◌≡◌, ℕ, false, List, Option, Result, Ok, Err, inl, inr, sym, subst}
 use Rattle.std.specs.Prelude.{IfOk}
 use Rattle.std.proofs.lemmas.Result.{IfOk-weaker}
 use Rattle.capture.specs.Faulty.{CountsReads, is_failed_read}
@@ -17,7 +17,8 @@ use Rattle.pair_judge.specs.declared.reason.Reason.{Reason}
 use Rattle.pair_judge.specs.declared.summary.SideSummary.{SideSummary}
 use Rattle.why.specs.declared.end_text.EndRefusal.{EndRefusal}
 use Rattle.printing.specs.Printed.{Moved, Writes}
-use Rattle.pair_judge.specs.JudgedAs.{end_of}
+use Rattle.pair_judge.specs.FailedIn.{IsNamedAlone}
+use Rattle.pair_judge.specs.JudgedAs.{checks_by, end_of}
 use Rattle.printing.specs.PrintedAlone.{TellsEndFault, end_text_over}
 use Rattle.why_answer.specs.PrintedWhyEnd.{ExplainsEnd, IsEndText, IsToldOf, PrintsPass, PrintsStop, Stop, TellsEnd, stop}
 use Rattle.pair_judge.specs.declared.judged_as.Layers.{Layers}
@@ -28,7 +29,7 @@ use Rattle.printing.proofs.AnsweringAlone.{without_memory}
 
 -- ---- what is told of a refusal tells it in either form
 
-module _ {X E : Type 0} (bytes : X → List ℕ) (layers : Layers) (s : Stop) (told : EndRefusal) (is_told : IsToldOf layers told s) where
+module _ {X E : Type 0} (bytes : X → List ℕ) (layers : Layers) (s : Stop) (told : EndRefusal) (is_told : IsToldOf told s) where
   tells : (form : Form) (r : Result X E) → IfOk r (λ text. IsEndText layers form told s (bytes text)) →
       IfOk r (λ text. TellsEnd layers form s (bytes text))
   tells form r is_text = IfOk-weaker r (λ text. IsEndText layers form told s (bytes text)) (λ text. TellsEnd layers form s (bytes text))
@@ -68,6 +69,7 @@ module _ (layers : Layers) (form : Form) (a : Moved) (streams : Moved × Moved) 
     answer = Err OutOfMemory;
     judged = without_memory (end_of layers) a.old.bytes;
     stands = tt;
+    names = tt;
     reads = reads;
     printed = (told, same);
   }
@@ -76,13 +78,14 @@ module _ (layers : Layers) (form : Form) (a : Moved) (streams : Moved × Moved) 
       CountsReads (is_failed_read {A = Stop} (Err fault)) a.old.faults a.new.faults → TellsEndFault streams.1 fault status →
       streams.0.new ≡ streams.0.old → ExplainsEnd layers form a streams status
   explains_end_fault fault judged reads told same =
-      record { answer = Err fault; judged = judged; stands = tt; reads = reads; printed = (told, same) }
+      record { answer = Err fault; judged = judged; stands = tt; names = tt; reads = reads; printed = (told, same) }
 
   module _ (told_of : List MadeRecord → Type 0) (verdict : EndVerdict) (end : ShownEnd)
       (judged : IsJudgedAlone (end_of layers) a.old.bytes (Ok verdict)) (stands : StandsAlone (end_of layers) a.old.bytes end verdict told_of)
+      (names : IsNamedAlone (checks_by layers false) end verdict)
       (reads : CountsReads (is_failed_read {A = Stop} (Ok (stop verdict end))) a.old.faults a.new.faults) where
     told_end : PrintsStop layers form streams (stop verdict end) verdict status → ExplainsEnd layers form a streams status
-    told_end printed = record { answer = Ok (stop verdict end); judged = judged; stands = unwatched stands; reads = reads; printed = printed }
+    told_end printed = record { answer = Ok (stop verdict end); judged = judged; stands = unwatched stands; names = names; reads = reads; printed = printed }
 
     pub explains_pass : (counts : SideSummary) → verdict ≡ Passed counts → PrintsPass layers form streams counts status →
         ExplainsEnd layers form a streams status

@@ -1,11 +1,11 @@
 -- What `why` prints of an answer of the judge, as far as it is claimed, and with which status it ends.
-use Rattle.std.specs.Prelude.{◌≡◌, ℕ, Bool, ◌⊎◌, List, Option, Some, Result, Ok, Err, IfOk, codes}
+use Rattle.std.specs.Prelude.{◌≡◌, ℕ, Bool, false, ◌⊎◌, List, Option, Some, Result, Ok, Err, IfOk, codes}
 use Rattle.std.specs.Io.KnownBytes.{Appends}
 use Rattle.wire_base.specs.declared.side.Side.{Side}
 use Rattle.capture_record.specs.Entries.{record_with}
 use Rattle.capture_record.specs.declared.entry.Entry.{Entry}
 use Rattle.pair_judge.specs.Ends.{ShownEnds, verdict_in}
-use Rattle.pair_judge.specs.FailedIn.{IsFailedIn}
+use Rattle.pair_judge.specs.FailedIn.{IsNamedIn}
 use Rattle.pair_judge.specs.Finding.{of_side}
 use Rattle.pair_judge.specs.Judged.{IsAnswer}
 use Rattle.pair_judge.specs.Reason.{reason_matter}
@@ -21,7 +21,7 @@ use Rattle.why.specs.declared.accusation.Excuse.{Excuse}
 use Rattle.why.specs.declared.other_node.OtherNode.{OtherNode}
 use Rattle.why.specs.declared.why_text.Refusal.{Refusal}
 use Rattle.why.specs.Refused.{BeginsWith, accused_by, accuses, line_of, refused_line}
-use Rattle.pair_judge.specs.JudgedAs.{StandsOver, nodes_of, queues_of}
+use Rattle.pair_judge.specs.JudgedAs.{StandsOver, checks_by, nodes_of}
 use Rattle.printing.specs.Layers.{verdict_text_over}
 use Rattle.printing.specs.Printed.{Moved, TellsFault, Writes, fault_text, verdict_text}
 use Rattle.pair_judge.specs.declared.judged_as.Layers.{Layers}
@@ -37,29 +37,28 @@ pub record IsAccused (reason : Reason) (by_table : Accusation) (accusation : Acc
   pub other : Option OtherNode
   pub is : accusation ≡ accused_by (reason_matter reason) has_begun excuse other by_table
 
--- what is told of a refusal is told of the record ahead of its side; the check that is named is the first of the verdict's reason that fails
-pub record IsTold (layers : Layers) (ends : ShownEnds) (refused : Refused) (told : Refusal) : Type 0 where
+-- what is told of a refusal is told of the record ahead of its side, with the check that the judge names of that
+pub record IsTold (ends : ShownEnds) (refused : Refused) (told : Refusal) : Type 0 where
   pub side : told.side ≡ refused.side
   pub place : told.place ≡ refused.place
   pub reason : told.reason ≡ refused.reason
   pub accused : IsAccused refused.reason (accuses refused.reason told.says) told.accusation
   pub ahead : (of_side refused.side ends.a ends.b).ahead ≡ Some (record_with told.says told.bytes.now)
-  pub failing : Side
-  pub failed : IsFailedIn (queues_of layers) ends (Some (failing, told.failed))
+  pub failed : (of_side refused.side ends.a ends.b).failed ≡ Some told.failed
 
 -- in rows the line of the verdict comes first, and as JSON objects that of the refusal; what follows is not claimed
 abbrev pub IsWhyText : Form → Refusal → ShownEnds → List ℕ → Type 0
 IsWhyText Rows told ends text = BeginsWith (verdict_text ends.verdict) text
 IsWhyText Json told ends text = BeginsWith (refused_line (line_of told)) text
 
-pub record IsTelling (layers : Layers) (form : Form) (ends : ShownEnds) (refused : Refused) (text : List ℕ) : Type 0 where
+pub record IsTelling (form : Form) (ends : ShownEnds) (refused : Refused) (text : List ℕ) : Type 0 where
   pub told : Refusal
-  pub is_told : IsTold layers ends refused told
+  pub is_told : IsTold ends refused told
   pub is_text : IsWhyText form told ends text
 
 -- where no check is named, the text is the line of the verdict alone
-abbrev pub TellsRefusal : Layers → Form → ShownEnds → Refused → List ℕ → Type 0
-TellsRefusal layers form ends refused text = IsTelling layers form ends refused text ⊎ (text ≡ verdict_text ends.verdict)
+abbrev pub TellsRefusal : Form → ShownEnds → Refused → List ℕ → Type 0
+TellsRefusal form ends refused text = IsTelling form ends refused text ⊎ (text ≡ verdict_text ends.verdict)
 
 abbrev pub accepted_text : Layers → Form → Summary → List ℕ
 accepted_text layers Rows summary = verdict_text_over layers (Accepted summary)
@@ -77,7 +76,7 @@ WritesRefusal out err text status =
 module _ (layers : Layers) (form : Form) (out err : Moved) where
   pub record PrintsRefusal (ends : ShownEnds) (refused : Refused) (status : ℕ) : Type 0 where
     pub text : List ℕ
-    pub tells : TellsRefusal layers form ends refused text
+    pub tells : TellsRefusal form ends refused text
     pub written : WritesRefusal out err text status
 
   abbrev pub PrintsVerdict : ShownEnds → Verdict → ℕ → Type 0
@@ -101,4 +100,5 @@ pub record Explains (how : Layers × Form) (text_a text_b : Option (List ℕ)) (
   pub answer : Result ShownEnds JudgeFault
   pub judged : IsAnswer (nodes_of how.0) text_a text_b (verdict_in answer)
   pub stands : IfOk answer (StandsOver how.0 text_a text_b)
+  pub names : IfOk answer (IsNamedIn (checks_by how.0 false))
   pub printed : PrintsWhy how.0 how.1 streams.0 streams.1 answer status

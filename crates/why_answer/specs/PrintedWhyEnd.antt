@@ -1,5 +1,5 @@
 -- What `why` prints of an answer of the judge of one end, as far as it is claimed, and with which status it ends.
-use Rattle.std.specs.Prelude.{◌≡◌, ℕ, ◌⊎◌, List, Some, Result, Ok, Err, IfOk, codes}
+use Rattle.std.specs.Prelude.{◌≡◌, ℕ, false, ◌⊎◌, List, Some, Result, Ok, Err, IfOk, codes}
 use Rattle.capture_record.specs.Entries.{record_with}
 use Rattle.capture.specs.Faulty.{CountsReads, is_failed_read}
 use Rattle.capture.specs.declared.fault.CaptureFault.{CaptureFault}
@@ -7,7 +7,7 @@ use Rattle.capture.specs.declared.fault.CaptureFault.TheVariants.{OutOfMemory}
 use Rattle.pair_judge.specs.EndJudged.{IsJudgedAlone}
 use Rattle.pair_judge.specs.EndShown.{StandsAlone}
 use Rattle.pair_judge.specs.Ends.{ShownEnd}
-use Rattle.pair_judge.specs.FailedIn.{IsFailedAlone}
+use Rattle.pair_judge.specs.FailedIn.{IsNamedAlone}
 use Rattle.pair_judge.specs.Order.{MadeRecord}
 use Rattle.pair_judge.specs.Watched.{only}
 use Rattle.pair_judge.specs.declared.end_verdict.Accused.{Accused}
@@ -16,7 +16,7 @@ use Rattle.pair_judge.specs.declared.end_verdict.EndVerdict.TheVariants.{Passed,
 use Rattle.pair_judge.specs.declared.summary.SideSummary.{SideSummary}
 use Rattle.why.specs.declared.end_text.EndRefusal.{EndRefusal}
 use Rattle.why.specs.Refused.{BeginsWith, end_accuses, line_of_end, refused_line}
-use Rattle.pair_judge.specs.JudgedAs.{end_of, queues_of}
+use Rattle.pair_judge.specs.JudgedAs.{checks_by, end_of}
 use Rattle.printing.specs.Printed.{Moved, Writes}
 use Rattle.printing.specs.PrintedAlone.{TellsEndFault, end_text_over}
 use Rattle.why_answer.specs.PrintedWhy.{IsAccused}
@@ -32,13 +32,13 @@ pub record Stop : Type 0 where
 abbrev pub stop : EndVerdict → ShownEnd → Stop
 stop verdict end = record { verdict = verdict; end = end }
 
--- what is told of a refusal is told of the record ahead, and the check that is named, if one is, is one of its reason
-pub record IsToldOf (layers : Layers) (told : EndRefusal) (s : Stop) : Type 0 where
+-- what is told of a refusal is told of the record ahead, with the check that the judge names of that, if it does
+pub record IsToldOf (told : EndRefusal) (s : Stop) : Type 0 where
   pub accused : Accused
   pub is_refused : s.verdict ≡ Refused told.place accused told.reason
   pub accusation : IsAccused told.reason (end_accuses accused told.reason told.says) told.accusation
   pub ahead : s.end.ahead ≡ Some (record_with told.says told.bytes.now)
-  pub failed : IsFailedAlone (queues_of layers) s.end told.reason told.failed
+  pub failed : s.end.failed ≡ told.failed
 
 -- over these layers
 module _ (layers : Layers) where
@@ -49,7 +49,7 @@ module _ (layers : Layers) where
 
   pub record IsEndTelling (form : Form) (s : Stop) (text : List ℕ) : Type 0 where
     pub told : EndRefusal
-    pub is_told : IsToldOf layers told s
+    pub is_told : IsToldOf told s
     pub is_text : IsEndText form told s text
 
   -- where no record is ahead, the text is the line of the verdict alone
@@ -89,5 +89,6 @@ pub record ExplainsEnd (layers : Layers) (form : Form) (a : Moved) (streams : Mo
   pub answer : Result Stop CaptureFault
   pub judged : IsJudgedAlone (end_of layers) a.old.bytes (only answer (λ s. s.verdict))
   pub stands : IfOk answer (λ s. StandsAlone (end_of layers) a.old.bytes s.end s.verdict (λ (order : List MadeRecord). Unit {0}))
+  pub names : IfOk answer (λ s. IsNamedAlone (checks_by layers false) s.end s.verdict)
   pub reads : CountsReads (is_failed_read answer) a.old.faults a.new.faults
   pub printed : PrintsWhyEnd layers form streams answer status

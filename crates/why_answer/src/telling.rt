@@ -93,7 +93,7 @@ pub fn refused_text(
     mut watched: Watched<LastRows>,
     tried: Tried,
 ) -> Result<String, AllocError>
-    ensures { IfOk result (λ text. TellsRefusal printout.entry.layers printout.entry.form watched.ends refused (string_bytes text)) }
+    ensures { IfOk result (λ text. TellsRefusal printout.entry.form watched.ends refused (string_bytes text)) }
 {
     text_of_refused(
         alloc,
@@ -114,7 +114,7 @@ pub fn text_of_refused(
     rows: &mut LastRows,
     tried: &Tried,
 ) -> Result<String, AllocError>
-    ensures { IfOk result (λ text. TellsRefusal printout.entry.layers printout.entry.form ends.now refused (string_bytes text)) }
+    ensures { IfOk result (λ text. TellsRefusal printout.entry.form ends.now refused (string_bytes text)) }
 {
     let Some(refusal) = refusal_of(refused, ends, tried, &rows.past) else {
         return verdict_text(alloc, Layers::Both, ends.verdict());

@@ -1,13 +1,14 @@
 -- What is printed where both ends are told, and where there was no memory for the text.
-use Rattle.std.proofs.Common.{◌≡◌, ℕ, List, Option, Ok, Err, inl, inr, sym, subst}
+use Rattle.std.proofs.Common.{◌≡◌, ℕ, false, List, Option, Ok, Err, inl, inr, sym, subst}
 use Rattle.pair_judge.specs.Ends.{ShownEnds}
+use Rattle.pair_judge.specs.FailedIn.{IsNamedIn}
 use Rattle.pair_judge.specs.Judged.{Answer, IsAnswer}
 use Rattle.pair_judge.specs.declared.fault.JudgeFault.{JudgeFault}
 use Rattle.pair_judge.specs.declared.fault.JudgeFault.TheVariants.{OutOfMemory}
 use Rattle.pair_judge.specs.declared.summary.Summary.{Summary}
 use Rattle.pair_judge.specs.declared.verdict.Verdict.{Verdict}
 use Rattle.pair_judge.specs.declared.verdict.Verdict.TheVariants.{Accepted, Refused as IsRefused}
-use Rattle.pair_judge.specs.JudgedAs.{StandsOver, nodes_of}
+use Rattle.pair_judge.specs.JudgedAs.{StandsOver, checks_by, nodes_of}
 use Rattle.printing.specs.Printed.{Moved, TellsFault}
 use Rattle.why_answer.specs.PrintedWhy.{Explains, PrintsAcceptance, PrintsVerdict, TellsRefusal, WritesRefusal}
 use Rattle.pair_judge.specs.declared.judged_as.Layers.{Layers}
@@ -29,17 +30,18 @@ module _ (layers : Layers) (form : Form) (text_a text_b : Option (List ℕ)) (ou
     answer = Err OutOfMemory;
     judged = without_memory (nodes_of layers) text_a text_b;
     stands = tt;
+    names = tt;
     printed = (told, same);
   }
 
   pub explains_fault : (fault : JudgeFault) → IsAnswer (nodes_of layers) text_a text_b (Err fault) → TellsFault err fault status → out.new ≡ out.old →
       Explains (layers, form) text_a text_b (out, err) status
-  explains_fault fault judged told same = record { answer = Err fault; judged = judged; stands = tt; printed = (told, same) }
+  explains_fault fault judged told same = record { answer = Err fault; judged = judged; stands = tt; names = tt; printed = (told, same) }
 
   module _ (ends : ShownEnds) (judged : IsAnswer (nodes_of layers) text_a text_b (Ok ends.verdict))
-      (stands : StandsOver layers text_a text_b ends) where
+      (stands : StandsOver layers text_a text_b ends) (names : IsNamedIn (checks_by layers false) ends) where
     told_ends : PrintsVerdict layers form out err ends ends.verdict status → Explains (layers, form) text_a text_b (out, err) status
-    told_ends printed = record { answer = Ok ends; judged = judged; stands = stands; printed = printed }
+    told_ends printed = record { answer = Ok ends; judged = judged; stands = stands; names = names; printed = printed }
 
     pub explains_acceptance : (summary : Summary) → ends.verdict ≡ Accepted summary → PrintsAcceptance layers form (out, err) summary status →
         Explains (layers, form) text_a text_b (out, err) status
@@ -48,7 +50,7 @@ module _ (layers : Layers) (form : Form) (text_a text_b : Option (List ℕ)) (ou
     explains_acceptance summary is (inr told) = explains_nothing told.0 told.1
 
     pub explains_refusal : (refused : Refused) → ends.verdict ≡ IsRefused refused.side refused.place refused.reason → (text : List ℕ) →
-        TellsRefusal layers form ends refused text → WritesRefusal out err text status → Explains (layers, form) text_a text_b (out, err) status
+        TellsRefusal form ends refused text → WritesRefusal out err text status → Explains (layers, form) text_a text_b (out, err) status
     explains_refusal refused is text tells written =
         told_ends (subst (λ (verdict : Verdict). PrintsVerdict layers form out err ends verdict status) (sym is)
         (record { text = text; tells = tells; written = written }))

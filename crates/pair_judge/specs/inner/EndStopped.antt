@@ -21,12 +21,13 @@ use Rattle.pair_judge.specs.declared.stopped_end.StoppedEnd.{StoppedEnd}
 use Rattle.pair_judge.specs.EndJudged.{IsEndAnswer, accused_view}
 use Rattle.pair_judge.specs.EndShown.{told_alone}
 use Rattle.pair_judge.specs.Ends.{ShownEnd, record_ahead}
+use Rattle.pair_judge.specs.FailedIn.{IsNamedAlone}
 use Rattle.pair_judge.specs.Heads.{head_of}
 use Rattle.pair_judge.specs.Order.{MadeRecord}
 use Rattle.pair_judge.specs.Reason.{reason_of_step}
 use Rattle.pair_judge.specs.Summary.{counts_of}
 use Rattle.pair_judge.specs.inner.Course.{IsWaiting, waiting}
-use Rattle.pair_judge.specs.inner.LoneEnd.{NamesOwn, node_of_end}
+use Rattle.pair_judge.specs.inner.LoneEnd.{node_of_end}
 use Rattle.pair_judge.specs.inner.Wire.{JudgeTop}
 
 -- what is shown of it
@@ -51,7 +52,6 @@ module _ (top : JudgeTop) where
     pub refusal : StepRefusal
     pub is_reason : reason ≡ reason_of_step refusal
     pub refused : step_alone top.alone (node_of_end s.end) next ≡ Refuses (accused_view accused) refusal
-    pub names : NamesOwn top next s.end s.failed
 
   abbrev pub StopsThere : StoppedEnd → EndVerdict → Type 0
   StopsThere s (Passed summary) = s.ahead ≡ Ended
@@ -73,3 +73,4 @@ module _ (top : JudgeTop) where
     pub all : read.records ≡ made ++ waiting s.capture.bytes s.ahead
     pub told : tells (told_alone made)
     pub stands : StandsAfter (head_of read) made s
+    pub names : IsNamedAlone top.checks (shown_lone s.capture s.end s.ahead s.failed) s.verdict

@@ -8,7 +8,6 @@ ghost use Rattle.capture_record.specs.Entries.{record_with};
 ghost use Rattle.capture.specs.Faulty.{CountsReads, is_failed_read};
 ghost use Rattle.pair_judge.specs.EndJudged.{IsEndAnswer, IsJudgedAlone};
 ghost use Rattle.pair_judge.specs.Order.{TellsNext, made_by};
-ghost use Rattle.pair_judge.specs.Reason.{reason_of_step};
 ghost use Rattle.pair_judge.specs.Watched.{only};
 ghost use Rattle.pair_judge.specs.inner.EndStopped.{IsEndStopped};
 ghost use Rattle.pair_judge.specs.inner.LoneEnd.{summary_of_end};
@@ -20,12 +19,12 @@ use crate::lone_end::{LoneEnd, MadeAlone};
 use crate::made_entry::MadeEntry;
 use crate::observer::Observer;
 use crate::reason::Reason;
+use crate::side_end::named_alone;
 use crate::stopped_end::StoppedEnd;
 use crate::top::Top;
 use capture::{CaptureFault, CaptureReader, MAX_RECORDS, text_read_on, whole_text};
 use capture_record::Entry;
 use dna_node::Cause;
-use dna_station::StepRefusal;
 use std::alloc::{AllocError, Global};
 use std::io::Read;
 use wire_base::{Side, Tally};
@@ -80,8 +79,10 @@ fn stop_end<T: Top, O: Observer, R: Read>(
                     };
                 }
                 Ok(MadeAlone::Fails { accused, refusal }) => {
-                    let verdict = refused(number, accused, refusal);
-                    return Ok((fails(verdict, entry, capture, end, failed), observer));
+                    let reason = Reason::of_cause(Cause::Step(refusal));
+                    let named = named_alone::<T>(reason, &end, entry, capture.bytes(), failed);
+                    let verdict = refused(number, accused, reason);
+                    return Ok((fails(verdict, entry, capture, end, named), observer));
                 }
                 Err(_) => return Err(CaptureFault::OutOfMemory),
             },
@@ -106,13 +107,13 @@ fn tell<O: Observer>(observer: &mut O, entry: Entry, bytes: &[u8]) -> Result<(),
 }
 
 // The verdict on the record with this number, which can't be made.
-fn refused(place: u64, accused: Accused, refusal: StepRefusal) -> EndVerdict
-    ensures { result ≡ EndVerdict.Refused place accused (reason_of_step refusal) }
+fn refused(place: u64, accused: Accused, reason: Reason) -> EndVerdict
+    ensures { result ≡ EndVerdict.Refused place accused reason }
 {
     EndVerdict::Refused {
         place,
         accused,
-        reason: Reason::of_cause(Cause::Step(refusal)),
+        reason,
     }
 }
 

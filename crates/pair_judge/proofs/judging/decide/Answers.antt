@@ -1,11 +1,13 @@
 use Rattle.std.proofs.Common.{sym, subst, Ok}
 use Rattle.wire_base.specs.Tally.{tally_lent}
 use Rattle.pair_judge.specs.Ends.{ShownEnds, verdict_in}
+use Rattle.pair_judge.specs.FailedIn.{IsNamedIn}
 use Rattle.pair_judge.specs.Judged.{IsAnswer}
 use Rattle.pair_judge.specs.Watched.{WasTold}
 use Rattle.pair_judge.specs.inner.Stopped.{found_of}
 use Rattle.pair_judge.proofs.Clauses.{WholeLaws, answer_of_fault, answer_of_found}
 use Rattle.pair_judge.proofs.Ends.{told_there}
+use Rattle.pair_judge.proofs.NamesThere.{named_there}
 use Rattle.pair_judge.proofs.judging.decide.Goals as goal
 
 pub returns-in-Ok-clause-answer : goal.returns-in-Ok-clause-answer
@@ -19,6 +21,12 @@ returns-in-Ok-clause-answer g c =
 
 pub returns-in-Ok-clause-shown : goal.returns-in-Ok-clause-shown
 returns-in-Ok-clause-shown g c = record { stopped = c.in-Ok.stopped; is_stopped = c.in-Ok.ensures.stopped; shown = c.with_verdict.ensures }
+
+pub returns-in-Ok-clause-fails : goal.returns-in-Ok-clause-fails
+returns-in-Ok-clause-fails g c =
+    subst (λ (ends : ShownEnds). IsNamedIn g.T.Top.top.checks ends) (sym c.with_verdict.ensures)
+    (named_there g.T.Top.top c.names.ensures (g.R.Read.remaining (tally_lent c.args.a.now)) (g.S.Read.remaining (tally_lent c.args.b.now)) _
+    c.in-Ok.stopped c.in-Ok.ensures.stopped)
 
 pub returns-in-Ok-clause-told : goal.returns-in-Ok-clause-told
 returns-in-Ok-clause-told g c =

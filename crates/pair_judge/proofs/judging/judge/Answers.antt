@@ -5,8 +5,7 @@ use Rattle.std.proofs.lemmas.Result.{IfOk-weaker}
 use Rattle.wire_base.specs.Tally.{tally_lent}
 use Rattle.pair_judge.specs.AnyPeriod.{layers_of_any_period, stations_of_any_period}
 use Rattle.pair_judge.specs.Ends.{ShownEnds, StandsFor}
-use Rattle.pair_judge.specs.FailedIn.{NamesOne}
-use Rattle.pair_judge.proofs.Ends.{EndLaws, named_there, stands_there}
+use Rattle.pair_judge.proofs.Ends.{EndLaws, stands_there}
 use Rattle.pair_judge.proofs.Unasked.{line_refuses_other}
 use Rattle.pair_judge.proofs.UnaskedLayers.{layers_refuse_other, unasked_ends}
 use Rattle.pair_judge.proofs.judging.judge.Goals as goal
@@ -30,16 +29,22 @@ returns-in-Both-layers-clause-stands g c =
     c.decide-in-Both-layers.ensures.shown)
 
 pub returns-in-Both-layers-clause-fails : goal.returns-in-Both-layers-clause-fails
-returns-in-Both-layers-clause-fails g c =
-    rw (c.in-false.is, c.in-Both-layers.is) (IfOk-weaker c.decide-in-Both-layers.result _ _
-    (λ watched s. subst (λ (ends : ShownEnds). NamesOne Without ends) (sym s.shown) (named_there Without _ _ _ s.stopped s.is_stopped))
-    c.decide-in-Both-layers.ensures.shown)
+returns-in-Both-layers-clause-fails g c = rw (c.in-false.is, c.in-Both-layers.is) c.decide-in-Both-layers.ensures.fails
 
 pub returns-in-Queued-layers-clause-fails : goal.returns-in-Queued-layers-clause-fails
-returns-in-Queued-layers-clause-fails g c =
-    rw (c.in-false.is, c.in-Queued-layers.is) (IfOk-weaker c.decide-in-Queued-layers.result _ _
-    (λ watched s. subst (λ (ends : ShownEnds). NamesOne With ends) (sym s.shown) (named_there With _ _ _ s.stopped s.is_stopped))
-    c.decide-in-Queued-layers.ensures.shown)
+returns-in-Queued-layers-clause-fails g c = rw (c.in-false.is, c.in-Queued-layers.is) c.decide-in-Queued-layers.ensures.fails
+
+pub returns-in-Station-layers-clause-fails : goal.returns-in-Station-layers-clause-fails
+returns-in-Station-layers-clause-fails g c = rw (c.in-false.is, c.in-Station-layers.is) c.decide-in-Station-layers.ensures.fails
+
+pub returns-in-Both-clause-fails : goal.returns-in-Both-clause-fails
+returns-in-Both-clause-fails g c = rw (c.in-true.is, c.in-Both.is) c.decide.ensures.fails
+
+pub returns-in-Queued-clause-fails : goal.returns-in-Queued-clause-fails
+returns-in-Queued-clause-fails g c = rw (c.in-true.is, c.in-Queued.is) c.decide-in-Queued.ensures.fails
+
+pub returns-in-Station-clause-fails : goal.returns-in-Station-clause-fails
+returns-in-Station-clause-fails g c = rw (c.in-true.is, c.in-Station.is) c.decide-in-Station.ensures.fails
 
 pub returns-in-Both-clause-unasked : goal.returns-in-Both-clause-unasked
 returns-in-Both-clause-unasked g c = rw c.in-true.is

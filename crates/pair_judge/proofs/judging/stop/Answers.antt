@@ -46,6 +46,7 @@ returns-in-Ok-ending-clause-stopped g c =
       };
       told = subst (λ o. g.O.Observer.told o h.order) (sym same) h.told;
       stops = found.stops;
+      names = rw c.in-Ok-ending.is at c.if-turn.ensures.named;
     }
 
 pub loop-preserved : goal.loop-preserved

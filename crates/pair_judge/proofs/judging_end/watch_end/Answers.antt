@@ -2,8 +2,13 @@ use Rattle.std.proofs.Common.{sym, subst}
 use Rattle.wire_base.specs.Tally.{tally_lent}
 use Rattle.pair_judge.specs.EndShown.{StandsAlone}
 use Rattle.pair_judge.specs.Ends.{ShownEnd}
+use Rattle.pair_judge.specs.FailedIn.{IsNamedAlone}
 use Rattle.pair_judge.proofs.EndsAlone.{stands_alone}
 use Rattle.pair_judge.proofs.judging_end.watch_end.Goals as goal
+
+pub returns-in-Ok-clause-fails : goal.returns-in-Ok-clause-fails
+returns-in-Ok-clause-fails g c =
+    subst (λ (end : ShownEnd). IsNamedAlone g.T.Top.top.checks end c.in-Ok.stopped.verdict) (sym c.alone-end.ensures) c.in-Ok.ensures.stopped.names
 
 pub returns-in-Ok-clause-stands : goal.returns-in-Ok-clause-stands
 returns-in-Ok-clause-stands g c =

@@ -19,3 +19,6 @@ returns-in-Err-clause-made g c = λ incoming mine theirs stands shows.
     let bytes = c.args.bytes.now in
     went_refused top (Noise bytes) (λ (s : WireLayers). judge_hears top s (reading bytes)) (λ n. refl) c.args.own.now incoming mine theirs
     c.in-Err.refusal stands c.in-Err.ensures.refused
+
+pub returns-in-Err-clause-named : goal.returns-in-Err-clause-named
+returns-in-Err-clause-named g c = λ front units. c.in-Err.ensures.named

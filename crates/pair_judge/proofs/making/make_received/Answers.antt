@@ -25,3 +25,6 @@ returns-in-Ok-Fails-clause-made g c = λ mine theirs stands shows.
     let fails = (rw c.in-Ok-Fails.field-0-is at c.in-Ok-Fails.ensures.receipt) theirs.sent shows in
     receipt_refused g.T.Top.top c.args.own.now c.args.incoming.now c.args.hint c.args.fate c.args.bytes.now mine theirs c.in-Ok-Fails.refusal stands
     fails
+
+pub returns-in-Ok-Fails-clause-named : goal.returns-in-Ok-Fails-clause-named
+returns-in-Ok-Fails-clause-named g c = rw c.in-Ok-Fails.field-0-is at c.in-Ok-Fails.ensures.named

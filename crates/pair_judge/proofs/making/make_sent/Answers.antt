@@ -11,3 +11,6 @@ pub returns-in-Refused-clause-made : goal.returns-in-Refused-clause-made
 returns-in-Refused-clause-made g c = λ incoming mine theirs stands shows. sending_refused g.T.Top.top c.args.own.now incoming c.args.bytes.now mine
     theirs
     c.in-Refused.refusal stands (rw c.in-Refused.is at c.in-Err.ensures.err)
+
+pub returns-in-Refused-clause-named : goal.returns-in-Refused-clause-named
+returns-in-Refused-clause-named g c = λ front units. rw c.in-Refused.is at c.in-Err.ensures.named

@@ -124,3 +124,8 @@ returns-in-Ok-Ended-clause-fault g c =
     h order text_a text_b _ made_a made_b
     (under_still g.T.Top.top order text_a text_b c.args.a.now _ c.args.b.now _ _ _ _ made_a made_b under m.read m.still.same_end m.still.same_line))
     c.turn_of_b-in-Ok-Ended.ensures.fault
+
+-- ---- the check that is named
+
+pub returns-in-Ok-Fails-clause-named : goal.returns-in-Ok-Fails-clause-named
+returns-in-Ok-Fails-clause-named g c = rw c.refused.ensures (rw c.in-Ok-Fails.field-0-is at c.in-Ok-Fails.ensures.named)

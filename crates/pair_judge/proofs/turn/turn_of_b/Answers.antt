@@ -139,3 +139,17 @@ returns-in-Err-clause-fault g c = λ order text_a text_b come_a made_a made_b un
     subst (λ (fault : JudgeFault). IsJudgeFault g.T.Top.top.kind text_a text_b fault) (sym c.side_fault.ensures)
     (faulty g.T.Top.top.kind _ _ under.read_a under.read_b (shown.world, shown.run) B c.in-Err.fault (c.in-Err.ensures.fault text_b made_b
     under.read_b))
+
+-- ---- the check that is named
+
+pub returns-in-Ok-Fails-clause-named : goal.returns-in-Ok-Fails-clause-named
+returns-in-Ok-Fails-clause-named g c = rw c.refused.ensures (rw c.in-Ok-Fails.field-0-is at c.in-Ok-Fails.ensures.named)
+
+pub returns-in-Ok-Blocked-clause-named : goal.returns-in-Ok-Blocked-clause-named
+returns-in-Ok-Blocked-clause-named g c = rw c.refused-in-Ok-Blocked.ensures tt
+
+pub returns-in-Ok-Blocked-2-clause-named : goal.returns-in-Ok-Blocked-2-clause-named
+returns-in-Ok-Blocked-2-clause-named g c = rw c.refused-in-Ok-Blocked-2.ensures tt
+
+pub returns-in-Ok-Ended-clause-named : goal.returns-in-Ok-Ended-clause-named
+returns-in-Ok-Ended-clause-named g c = rw c.refused-in-Ok-Ended.ensures tt

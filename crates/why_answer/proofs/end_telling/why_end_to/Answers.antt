@@ -25,12 +25,12 @@ pub returns-in-Passed : goal.returns-in-Passed
 returns-in-Passed g c =
     let told = c.in-Ok-judge_end in
     explains_pass c.args.printout.layers c.args.printout.form _ _ _ _ told.watched.verdict told.watched.end told.ensures.judged
-    told.ensures.stands told.ensures.reads c.in-Passed.counts c.in-Passed.is c.print_passed.ensures
+    told.ensures.stands told.ensures.fails told.ensures.reads c.in-Passed.counts c.in-Passed.is c.print_passed.ensures
 
 pub returns-in-Ok-end_refused_text : goal.returns-in-Ok-end_refused_text
 returns-in-Ok-end_refused_text g c =
     let told = c.in-Ok-judge_end in
     explains_end_refusal c.args.printout.layers c.args.printout.form _ _ _ _ told.watched.verdict told.watched.end told.ensures.judged
-    told.ensures.stands told.ensures.reads _ _ _ c.in-Refused.is _ c.in-Ok-end_refused_text.ensures
+    told.ensures.stands told.ensures.fails told.ensures.reads _ _ _ c.in-Refused.is _ c.in-Ok-end_refused_text.ensures
     (subst (λ (bytes : List ℕ). Writes (stream_of g.O.Write.contents c.args.out.now) (stream_of g.O.Write.contents c.print.new.stream) bytes 1
     c.print.result) c.as_bytes.ensures.value c.print.ensures) refl

@@ -1,4 +1,5 @@
-use Rattle.std.proofs.Common.{refl}
+use Rattle.std.proofs.Common.{refl, sym, ap, ◌∙◌}
+use Rattle.pair_judge.specs.Ends.{ShownEnd}
 use Rattle.why_answer.proofs.telling.refusal_of.Goals as goal
 
 pub returns : goal.returns
@@ -8,6 +9,5 @@ returns c = record {
   reason = refl;
   accused = c.accusation_of.ensures;
   ahead = c.in-Some.ensures.some;
-  failing = _;
-  failed = c.in-Some-failed.ensures;
+  failed = ap (λ (e : ShownEnd). e.failed) (sym c.end-end.ensures) ∙ sym c.failed.ensures ∙ c.in-Some-failed.is;
 }

@@ -42,3 +42,10 @@ returns-in-Ok-Fails-clause-advance g c = λ text come made read.
       counts = rw c.in-Ok-Fails.field-0-is at c.in-Ok-Fails.ensures.counts;
       refused = rw (c.in-Ok-Fails.field-0-is, c.bytes.ensures) at c.in-Ok-Fails.ensures.made;
     }
+
+pub returns-in-Ok-Fails-clause-named : goal.returns-in-Ok-Fails-clause-named
+returns-in-Ok-Fails-clause-named g c =
+    let named = rw (c.in-Ok-Fails.field-0-is, c.bytes.ensures) at c.in-Ok-Fails.ensures.named in
+    let same_end = rw c.in-Ok-Fails.field-0-is at c.in-Ok-Fails.ensures.still in
+    let same_line = rw c.in-Ok-Fails.field-0-is at c.in-Ok-Fails.ensures.same_line in
+    rw (same_end, same_line) named

@@ -38,7 +38,14 @@ returns-in-Ok-Fails-clause-stopped g c =
     rw (c.fails.ensures, c.refused-verdict.ensures)
     (stopped_at g.T.Top.top _ _ _ c.loop-number.capture c.advance.new.self c.loop-number.end c.loop-number.number
     (record_with c.in-Ok-Some.entry c.advance.new.self.bytes) h c.advance.ensures.head.0 c.advance.ensures.head.1 gives laws _ c.in-Ok-Some.entry _
-    c.in-Ok-Fails.accused _ c.in-Ok-Fails.refusal refl refl fails c.shows_alone.ensures.ends c.loop-number.invariant.2 still)
+    c.in-Ok-Fails.accused _ c.in-Ok-Fails.refusal refl c.of_cause-reason.ensures fails c.shows_alone.ensures.ends c.loop-number.invariant.2 still _
+    (rw c.bytes-in-Ok-Fails.ensures at c.named_alone-named.ensures))
+
+pub named_alone-named-requires : goal.named_alone-named-requires
+named_alone-named-requires g c =
+    let named = rw (c.in-Ok-Fails.field-0-is, c.bytes.ensures) at c.in-Ok-Fails.ensures.named in
+    let still = rw c.in-Ok-Fails.field-0-is at c.in-Ok-Fails.ensures.still in
+    rw (still, c.bytes-in-Ok-Fails.ensures) named
 
 pub returns-in-Ok-Fails-clause-reads : goal.returns-in-Ok-Fails-clause-reads
 returns-in-Ok-Fails-clause-reads g c = c.in-Ok-Some.ensures.reads ∙ c.loop-number.invariant.1

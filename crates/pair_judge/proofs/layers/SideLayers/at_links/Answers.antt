@@ -4,7 +4,7 @@ use Rattle.nsp_link.specs.Kinds.{queues_of}
 use Rattle.dna_links.specs.User.{view}
 use Rattle.dna_links.specs.WireLinks.{wire_links_user}
 use Rattle.dna_node.specs.WireLayers.{WireLayers, with_wire_links}
-use Rattle.pair_judge.proofs.LinkEvents.{entered, made_by_links}
+use Rattle.pair_judge.proofs.LinkEvents.{entered, made_by_links, named_by_links}
 use Rattle.pair_judge.proofs.layers.SideLayers.at_links.Goals as goal
 
 pub returns-in-Err-Refused-clause-refused : goal.returns-in-Err-Refused-clause-refused
@@ -28,3 +28,10 @@ returns-clause-ok g c =
     let old : WireLayers = record { station = c.self.inside.station; links = c.self.inside.links } in
     rw (← c.self.view_is)
     (made_by_links (queues_of g.row.QUEUES) old (view c.args.event) c.requires ∙ ap (with_wire_links old) c.in-Ok.ensures.ok)
+
+pub returns-in-Err-Refused-clause-named : goal.returns-in-Err-Refused-clause-named
+returns-in-Err-Refused-clause-named g c =
+    rw (← c.self.view_is)
+    ((rw c.in-Err-Refused.field-0-is at c.in-Err-Refused.ensures.named)
+    ∙ sym (named_by_links (queues_of g.row.QUEUES) (record { station = c.self.inside.station; links = c.self.inside.links }) (view c.args.event)
+    c.requires))
