@@ -222,4 +222,3 @@ fn refused_of(verdict: Verdict) -> Option<Refused> {
         }),
     }
 }
-

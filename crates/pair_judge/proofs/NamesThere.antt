@@ -111,4 +111,3 @@ module _ (top : JudgeTop) (names : NamesRefusals top) (text_a text_b : Option (L
           IsNamedBy top.checks (ends_by (answer_of finding summary) finding) (answer_of finding summary)
       by_finding findings.Accepted summary stops named = tt
       by_finding (findings.Refused side place cause) summary stops named = on_side side place cause (answer_of (findings.Refused side place cause) summary) stops named
-

@@ -107,12 +107,7 @@ fn watch_end<T: Top, O: Observer, R: Read>(
     match decide_end::<T, O, R>(alloc, a, observer) {
         Ok((stopped, observer)) => {
             let verdict = stopped.verdict;
-            let end = SideEnd::alone(
-                stopped.capture,
-                stopped.end,
-                stopped.ahead,
-                stopped.failed,
-            );
+            let end = SideEnd::alone(stopped.capture, stopped.end, stopped.ahead, stopped.failed);
             Ok(WatchedEnd {
                 verdict,
                 end,

@@ -9,8 +9,6 @@ ghost use Rattle.pair_judge.specs.inner.Ends.{shown_end};
 mod due;
 mod failing;
 
-pub use failing::named_alone;
-
 use crate::course::{Ahead, Course};
 use crate::failed_check::FailedCheck;
 use crate::layers::SideLayers;
@@ -19,6 +17,7 @@ use crate::lone_end::LoneEnd;
 use capture::CaptureReader;
 use capture_record::Entry;
 use ddcmp_station::StationView;
+pub use failing::named_alone;
 use nsp_link::{LinkView, Nodes};
 use std::marker::Model;
 

@@ -18,7 +18,9 @@ pub fn check_at_side(side: Side, stopped: &Stopped) -> Option<FailedCheck>
     match stopped.finding {
         Finding::Accepted => None,
         Finding::Refused {
-            side: named, cause, ..
+            side: named,
+            cause,
+            ..
         } => match side {
             Side::A => match named {
                 Side::A => checked(cause, stopped.failed, &stopped.a, &stopped.b),

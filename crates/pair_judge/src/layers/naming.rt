@@ -20,9 +20,7 @@ pub fn name_sending(
 )
     ensures { failed.new ≡ Some (FailedCheck.StationSending (told station.now (view message.now) check)) }
 {
-    *failed = Some(FailedCheck::StationSending(
-        station.tell_sending(message, check),
-    ));
+    *failed = Some(FailedCheck::StationSending(station.tell_sending(message, check)));
 }
 
 /// Names the check that this arrival does not pass at the station.
@@ -35,7 +33,5 @@ pub fn name_arrival(
 )
     ensures { failed.new ≡ Some (FailedCheck.StationArrival (told_arrival station.now (arrival_view arrival.now) check)) }
 {
-    *failed = Some(FailedCheck::StationArrival(
-        station.tell_arrival(arrival, check),
-    ));
+    *failed = Some(FailedCheck::StationArrival(station.tell_arrival(arrival, check)));
 }
