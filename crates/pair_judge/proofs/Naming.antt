@@ -1,6 +1,9 @@
 -- The check that both layers name is that of the layer that refuses.
-use Rattle.std.proofs.Common.{◌≡◌, Bool, true, cond, Option, Some, None, List, ℕ, refl, sym, ap, ◌∙◌, option_map}
+use Rattle.std.proofs.Common.{◌≡◌, ◌<◌, ◌≤◌, ◌-◌, Bool, true, cond, Option, Some, None, List, ℕ, refl, sym, ap, ◌∙◌, option_map}
+use Rattle.std.specs.List.{slice_get}
+use Rattle.std.proofs.lemmas.Bool.{lt-ltb, le-ltb}
 use Rattle.capture_record.specs.declared.fate.Fate.{Fate}
+use Rattle.capture_record.specs.declared.record.Record.TheVariants.{Received}
 use Rattle.capture_record.specs.Fates.{is_kept, is_met}
 use Rattle.ddcmp_msg.specs.Message.{MessageValue}
 use Rattle.ddcmp_station.specs.Failed as of_station
@@ -13,12 +16,14 @@ use Rattle.dna_station.specs.WireBook.{gives_new, wire_book, wire_taken}
 use Rattle.dna_links.specs.Arriving.{PartnerRule}
 use Rattle.dna_links.specs.declared.queue.Queues.{Queues}
 use Rattle.dna_links.specs.declared.tag.LinkTag.{LinkTag}
-use Rattle.dna_node.specs.WireLayers.{WireLayers, tag_or_none}
+use Rattle.dna_station.specs.Line.{coming}
+use Rattle.dna_node.specs.WireLayers.{LayersTag, WireLayers, WireLayersUnit, tag_or_none}
 use Rattle.nsp_link.specs.FailedSending as sends
 use Rattle.nsp_link.specs.FailedSending.{or_next}
-use Rattle.pair_judge.specs.FailedCheck.{failed_arrival_by, failed_at_partner, failed_first, failed_kept, failed_message, failed_packet}
+use Rattle.pair_judge.specs.FailedCheck.{NodeChecks, failed_arrival_by, failed_at_partner, failed_coming, failed_first, failed_kept}
+use Rattle.pair_judge.specs.FailedCheck.{failed_message, failed_packet, failed_receipt, failed_record}
 use Rattle.pair_judge.specs.declared.failed_check.FailedCheck.{FailedCheck}
-use Rattle.pair_judge.specs.declared.failed_check.FailedCheck.TheVariants.{LinkSending, StationArrival, StationSending}
+use Rattle.pair_judge.specs.declared.failed_check.FailedCheck.TheVariants.{HintOrder, LinkSending, StationArrival, StationSending}
 use Rattle.pair_judge.specs.inner.Steps.{with_link}
 use Rattle.pair_judge.proofs.Arrives.{taken_kept}
 use Rattle.pair_judge.proofs.FailedAsRefused.{without_link}
@@ -62,3 +67,19 @@ module _ (periods : PeriodRule) (partners : PartnerRule) (s : WireLayers) (link 
       ∙ ap (failed_packet (failed_at_partner partners s.links tag)) both.1
   links_name_arrival HeaderBad packet tag met passes taken tag_is = absurd (cc)
   links_name_arrival DataBad packet tag met passes taken tag_is = absurd (cc)
+
+-- ---- a receipt
+
+module _ (checks : NodeChecks) (s : WireLayers) (front : ℕ) (units : List WireLayersUnit) (hint : ℕ) (fate : Fate) (bytes : List ℕ) where
+  abbrev at_front : Bool → Option WireLayersUnit → Option FailedCheck
+  at_front back found = cond back (Some (HintOrder hint front)) (failed_receipt checks s hint fate bytes found)
+
+  pub back_is_named : hint < front → failed_record checks s front units (Received hint fate bytes) ≡ Some (HintOrder hint front)
+  back_is_named below = ap (λ (b : Bool). at_front b (slice_get units (hint - front))) (lt-ltb hint front below)
+
+  pub coming_is_named : (unit : WireLayersUnit) (o : Option (ArrivalValue LayersTag)) → front ≤ hint → slice_get units (hint - front) ≡ Some unit →
+      o ≡ coming unit bytes → failed_record checks s front units (Received hint fate bytes) ≡ failed_coming checks s hint fate o
+  coming_is_named unit o at_least there comes =
+      ap (λ (b : Bool). at_front b (slice_get units (hint - front))) (le-ltb hint front at_least)
+      ∙ ap (λ (found : Option WireLayersUnit). failed_receipt checks s hint fate bytes found) there
+      ∙ ap (failed_coming checks s hint fate) (sym comes)

@@ -13,6 +13,7 @@ use Rattle.pair_judge.specs.Counting.{shows_damage}
 use Rattle.pair_judge.specs.inner.Lines.{held}
 use Rattle.pair_judge.specs.inner.Receipts.{node_of}
 use Rattle.pair_judge.specs.inner.Runs.{tag_of}
+use Rattle.pair_judge.proofs.Naming.{back_is_named, coming_is_named}
 use Rattle.pair_judge.proofs.Runs.{length-units_from}
 use Rattle.dna_links.proofs.Runs.Owners.{there_is}
 use Rattle.pair_judge.proofs.Sent.{held_at, released}
@@ -98,6 +99,31 @@ returns-in-Err-Refused-clause-receipt g c = λ sent shows.
           (at_link (λ link. g.T.Top.top.machine.arrives c.args.layers.now (with_link link (arrival_view c.in-Some-coming.arrival)) c.args.fate ≡ Err
           c.in-Err-Refused.refusal) (rw c.in-Err-Refused.field-0-is at c.in-Err-Refused.ensures.refused)),
     )
+
+-- ---- the check that is named
+
+pub returns-then-hint-line-clause-named : goal.returns-then-hint-line-clause-named
+returns-then-hint-line-clause-named g c =
+    sym (back_is_named g.T.Top.top.checks c.args.layers.now c.args.line.now.gone (held c.args.line.now) c.args.hint c.args.fate c.args.bytes.now
+    c.if-hint-line.true)
+
+pub returns-in-None-coming-clause-named : goal.returns-in-None-coming-clause-named
+returns-in-None-coming-clause-named g c =
+    let unit = c.in-Some.unit in
+    sym (coming_is_named g.T.Top.top.checks c.args.layers.now c.args.line.now.gone (held c.args.line.now) c.args.hint c.args.fate c.args.bytes.now
+    unit None c.if-hint-line.false (sym (sym c.in-Some.is ∙ c.unit.ensures))
+    (ap (option_map (λ arrival. with_link unit.known.link (arrival_view arrival))) (sym c.in-None-coming.is) ∙ c.coming.ensures.coming))
+
+pub returns-in-Err-Refused-clause-named : goal.returns-in-Err-Refused-clause-named
+returns-in-Err-Refused-clause-named g c =
+    let unit = c.in-Some.unit in
+    let arrival = with_link unit.known.link (arrival_view c.in-Some-coming.arrival) in
+    let at_link : (P : Option LinkTag → Type 0) → P c.link.result.now → P unit.known.link = λ P. subst P c.link.ensures in
+    at_link (λ link. c.arrived.new.failed ≡ g.T.Top.top.checks.arrives c.args.layers.now (with_link link (arrival_view c.in-Some-coming.arrival))
+    c.args.fate) (rw c.in-Err-Refused.field-0-is at c.in-Err-Refused.ensures.named)
+    ∙ sym (coming_is_named g.T.Top.top.checks c.args.layers.now c.args.line.now.gone (held c.args.line.now) c.args.hint c.args.fate c.args.bytes.now
+    unit (Some arrival) c.if-hint-line.false (sym (sym c.in-Some.is ∙ c.unit.ensures))
+    (ap (option_map (λ arrival. with_link unit.known.link (arrival_view arrival))) (sym c.in-Some-coming.is) ∙ c.coming.ensures.coming))
 
 pub returns-in-Err-OutOfMemory-clause-memory : goal.returns-in-Err-OutOfMemory-clause-memory
 returns-in-Err-OutOfMemory-clause-memory g c =
