@@ -1,5 +1,5 @@
 -- Both ends where the judge stops show the world in which the named record is refused, or waits.
-use Rattle.std.proofs.Common.{◌≡◌, ℕ, List, [], ◌∷◌, ◌++◌, length, map, drop, Option, Some, None, refl, sym, ap, ap₂, subst, ◌∙◌}
+use Rattle.std.proofs.Common.{◌≡◌, ℕ, List, [], ◌∷◌, ◌++◌, length, map, drop, Option, Some, refl, sym, ap, ap₂, subst, ◌∙◌}
 use Rattle.std.proofs.Common.{arith, length-drop}
 use Rattle.std.proofs.lemmas.List.{drop-map}
 use Rattle.std.specs.List.{slice_get}
@@ -14,7 +14,6 @@ use Rattle.dna_station.specs.Bounds.{IsOrdered}
 use Rattle.dna_station.specs.Cut.{AreLabelled, cut}
 use Rattle.dna_station.specs.Station.{Station}
 use Rattle.dna_station.specs.WireStation.{HeldPacket}
-use Rattle.dna_links.specs.declared.queue.Queues.{Queues}
 use Rattle.dna_links.specs.declared.queue.Queues.TheVariants.{Without}
 use Rattle.dna_links.specs.Runs.{SentMessage}
 use Rattle.dna_links.specs.declared.tag.LinkTag.{LinkTag}

@@ -1,5 +1,5 @@
 -- The check that a top names is the one for which it refuses.
-use Rattle.std.proofs.Common.{◌≡◌, Bool, Option, Some, None, Result, Ok, Err, refl, sym, ap, ◌∙◌, option_map}
+use Rattle.std.proofs.Common.{◌≡◌, Bool, Option, Some, None, refl, sym, ap, ◌∙◌, option_map}
 use Rattle.capture_record.specs.declared.event.Event.{Event}
 use Rattle.capture_record.specs.declared.event.Event.TheVariants as events
 use Rattle.capture_record.specs.declared.fate.Fate.{Fate}
@@ -31,7 +31,7 @@ use Rattle.pair_judge.specs.FailedCheck.{cause_in, cause_of, failed_at_station, 
 use Rattle.pair_judge.specs.declared.failed_check.FailedCheck.{FailedCheck}
 use Rattle.pair_judge.specs.declared.failed_check.FailedCheck.TheVariants.{StationArrival, StationEvent as AtStation, StationSending}
 use Rattle.pair_judge.specs.inner.Named.{NamesRefusals}
-use Rattle.pair_judge.specs.inner.Tops.{line_by, links_top, nothing_top, sent_alone}
+use Rattle.pair_judge.specs.inner.Tops.{links_top, nothing_top, sent_alone}
 use Rattle.pair_judge.proofs.FailedAsRefused.{arrival_so, message_same, user_same}
 
 -- ---- the links on top

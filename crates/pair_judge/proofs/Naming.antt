@@ -1,5 +1,5 @@
 -- The check that both layers name is that of the layer that refuses.
-use Rattle.std.proofs.Common.{◌≡◌, ◌<◌, ◌≤◌, ◌-◌, Bool, true, cond, Option, Some, None, List, ℕ, refl, sym, ap, ◌∙◌, option_map}
+use Rattle.std.proofs.Common.{◌≡◌, ◌<◌, ◌≤◌, ◌-◌, Bool, true, cond, Option, Some, None, List, ℕ, sym, ap, ◌∙◌, option_map}
 use Rattle.std.specs.List.{slice_get}
 use Rattle.std.proofs.lemmas.Bool.{lt-ltb, le-ltb}
 use Rattle.capture_record.specs.declared.fate.Fate.{Fate}

@@ -4,7 +4,6 @@
 use Rattle.std.specs.Prelude.{◌≡◌, ℕ, ◌⊎◌, option_map, Option, Some, None}
 use Rattle.std.specs.Prelude.{List, [], ◌∷◌}
 use Rattle.wire_base.specs.Side.{other_side}
-use Rattle.wire_base.specs.declared.side.Side.{Side}
 use Rattle.capture_record.specs.declared.record.Record.{Record}
 use Rattle.capture_record.specs.declared.record.Record.TheVariants.{Sent, Received, Noise, User}
 use Rattle.ddcmp_msg.specs.Message.{Data}

@@ -2,7 +2,7 @@
 
 ghost use Rattle.std.specs.Prelude.{◌≡◌, Option, option_map};
 ghost use Rattle.pair_judge.specs.FailedIn as spec;
-ghost use Rattle.pair_judge.specs.inner.Ends.{awaited_by, check_at, check_for, sent_on};
+ghost use Rattle.pair_judge.specs.inner.Ends.{awaited_by, check_at, check_for};
 
 use crate::course::{Ahead, Course};
 use crate::failed_check::{Awaited, FailedCheck};

@@ -1,4 +1,3 @@
-use Rattle.std.proofs.Common.{◌∙◌}
 use Rattle.dna_node.specs.WireLayers.{WireLayers}
 use Rattle.pair_judge.proofs.NamesRefusals.{start_named_by}
 use Rattle.pair_judge.proofs.layers.SideLayers.start_or_halt.Goals as goal

@@ -1,4 +1,4 @@
-use Rattle.std.proofs.Common.{Option, Some, sym, subst}
+use Rattle.std.proofs.Common.{Some, sym, subst}
 use Rattle.capture_record.specs.Entries.{record_with}
 use Rattle.capture_record.specs.declared.entry.Entry.{Entry}
 use Rattle.pair_judge.specs.FailedIn.{IsFirstOf, checks_alone}
