@@ -99,7 +99,8 @@ pub record EndLaws : Type 1 where
 
 -- ---- an end shows the half that it stands for
 
-node_shown : EndLaws → (own : Course) (incoming : Line) (check : Option FailedCheck) (w : JudgeHalf) (half : NodeHalf) → StandsForHalf own.end incoming w →
+node_shown : EndLaws → (own : Course) (incoming : Line) (check : Option FailedCheck) (w : JudgeHalf) (half : NodeHalf) →
+    StandsForHalf own.end incoming w →
     ShowsHalf links_on_top w half → IsOrdered half.state.station.station → ShowsNode (shown_end own incoming.gone check) half
 node_shown laws own incoming check w half stands shows ordered =
     let line = own.end.line in

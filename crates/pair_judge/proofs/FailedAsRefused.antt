@@ -53,7 +53,8 @@ use Rattle.nsp_link.proofs.FailedArrival.{arrival_same as link_arrival_same}
 use Rattle.nsp_link.proofs.FailedEvent.{event_same}
 use Rattle.nsp_link.proofs.FailedSending.{sending_same}
 use Rattle.pair_judge.specs.FailedCheck.{lent_of, carried, cause_in, cause_of}
-use Rattle.pair_judge.specs.FailedCheck.{failed_arrival, failed_arrival_by, failed_at_links, failed_at_partner, failed_composed, failed_first, failed_kept}
+use Rattle.pair_judge.specs.FailedCheck.{failed_arrival, failed_arrival_by, failed_at_links, failed_at_partner, failed_composed}
+use Rattle.pair_judge.specs.FailedCheck.{failed_first, failed_kept}
 use Rattle.pair_judge.specs.FailedCheck.{failed_lent, failed_message, failed_nsp, failed_packet, failed_start, failed_user}
 use Rattle.pair_judge.specs.inner.Steps.{with_link}
 use Rattle.pair_judge.specs.declared.failed_check.FailedCheck.{FailedCheck}

@@ -73,7 +73,8 @@ module _ (top : JudgeTop) (names : NamesRefusals top) (own other : JudgeHalf) wh
   noise_same (Some arrival) =
       names.arrives own.state.station arrival NotKept ∙ sym (does_same (top.machine.arrives own.state.station arrival NotKept))
 
-  comes_same : (hint : ℕ) (fate : Fate) (came : Option (ArrivalValue LayersTag)) → caused (failed_coming top.checks own.state.station hint fate came) ≡
+  comes_same : (hint : ℕ) (fate : Fate) (came : Option (ArrivalValue LayersTag)) →
+      caused (failed_coming top.checks own.state.station hint fate came) ≡
       cause_there (concluded {U = WireLayersUnit} own (comes top.machine own.state (hint + 1) fate came))
   comes_same hint fate None = refl
   comes_same hint fate (Some arrival) =

@@ -1,6 +1,6 @@
 -- One end alone along its capture: what was read, what was made of it, and what an answer then says.
-use Rattle.std.proofs.Common.{◌≡◌, ℕ, ◌+◌, ◌<◌, ◌≤◌, ◌^◌, inl, inr, List, [], ◌∷◌, ◌++◌, length, Option, Some, None, Ok, Err, refl, sym, ap, ap₂, subst}
-use Rattle.std.proofs.Common.{◌∙◌}
+use Rattle.std.proofs.Common.{◌≡◌, ℕ, ◌+◌, ◌<◌, ◌≤◌, ◌^◌, inl, inr, List, [], ◌∷◌, ◌++◌, length, Option, Some, None, Ok, Err, refl, sym, ap, ap₂}
+use Rattle.std.proofs.Common.{subst, ◌∙◌}
 use Rattle.std.proofs.Common.{arith, length-append, append-nil, append_assoc}
 use Rattle.std.proofs.lemmas.List.Sums.{count_by-le-length}
 use Rattle.std.specs.Option.{IfSome}
@@ -154,7 +154,8 @@ module _ (top : JudgeTop) where
         ((head : Head) (records : List Record) → EndsAlike top head records) → tells (told_alone h.records) → end' ≡ end →
         (failed : Option FailedCheck) →
         IsFirstOf reason (checks_alone top.checks end'.layers end'.front (Some (record_with entry new.bytes))) failed →
-        IsEndStopped top text tells (record { verdict = Refused number accused reason; capture = new; end = end'; ahead = Waits entry; failed = failed })
+        IsEndStopped top text tells
+        (record { verdict = Refused number accused reason; capture = new; end = end'; ahead = Waits entry; failed = failed })
     stopped_at tells entry end' accused reason refusal is_entry named is ends told same failed names = record {
       answer = refused_at accused reason refusal named is ends;
       read = so_far new.form new.own new.peer (h.records ++ r ∷ []) (ToCome after);

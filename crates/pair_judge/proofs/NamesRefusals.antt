@@ -43,7 +43,8 @@ links_name of_period queues = record { user = user_same queues; sends = message_
 
 module _ (s : WireLayers) where
   start_same : (after : WireStation LinkTag) (state : State) →
-      option_map cause_of (failed_start state (user_refusal state Start)) ≡ cause_in (with_wire_station s (unless_refused (user_refusal state Start) after))
+      option_map cause_of (failed_start state (user_refusal state Start)) ≡
+      cause_in (with_wire_station s (unless_refused (user_refusal state Start) after))
   start_same after Halted = refl
   start_same after state = refl
 

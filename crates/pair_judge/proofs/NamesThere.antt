@@ -56,22 +56,29 @@ module _ (top : JudgeTop) (names : NamesRefusals top) (text_a text_b : Option (L
       advance (judge_step top) mine theirs next ≡ outcomes.Refused refusal →
       option_map cause_of (failed_by top.checks own.layers incoming.gone (held incoming) (record_ahead bytes ahead)) ≡ Some (Step refusal)
   fails_at own incoming bytes ahead mine theirs next refusal stands shows waits becomes =
-      ap (λ (r : Option Record). option_map cause_of (failed_by top.checks own.layers incoming.gone (held incoming) r)) (is_ahead bytes ahead next waits)
+      ap (λ (r : Option Record). option_map cause_of (failed_by top.checks own.layers incoming.gone (held incoming) r))
+      (is_ahead bytes ahead next waits)
       ∙ fails_same top names own incoming mine theirs stands shows next ∙ ap cause_there becomes
 
-  named_at : (side : Side) (place : ℕ) (cause : Cause) → StopsAt top of_a of_b side place cause → Names top s.a s.b s.failed (findings.Refused side place cause) →
+  abbrev check_of : Side → Side → ℕ → Cause → Option FailedCheck
+  check_of own side place cause = check_at own s (findings.Refused side place cause)
+
+  named_at : (side : Side) (place : ℕ) (cause : Cause) → StopsAt top of_a of_b side place cause →
+      Names top s.a s.b s.failed (findings.Refused side place cause) →
       IsNamedFor top.checks (reason_of cause)
-      (of_side side (end_a (check_at A s (findings.Refused side place cause))) (end_b (check_at B s (findings.Refused side place cause))))
-      (of_side (other_side side) (end_a (check_at A s (findings.Refused side place cause))) (end_b (check_at B s (findings.Refused side place cause))))
+      (of_side side (end_a (check_of A side place cause)) (end_b (check_of B side place cause)))
+      (of_side (other_side side) (end_a (check_of A side place cause)) (end_b (check_of B side place cause)))
       (of_side side (held s.b.end.line) (held s.a.end.line))
   named_at A place (Step refusal) q named =
       let h = q.reached in
       step_named top.checks _ _ _ refusal
-      (fails_at s.a.end s.b.end.line s.a.capture.bytes s.a.ahead h.world.a h.world.b q.next refusal h.stands_a h.stands_b.sent q.ahead q.becomes) named
+      (fails_at s.a.end s.b.end.line s.a.capture.bytes s.a.ahead h.world.a h.world.b q.next refusal h.stands_a h.stands_b.sent q.ahead q.becomes)
+      named
   named_at B place (Step refusal) q named =
       let h = q.reached in
       step_named top.checks _ _ _ refusal
-      (fails_at s.b.end s.a.end.line s.b.capture.bytes s.b.ahead h.world.b h.world.a q.next refusal h.stands_b h.stands_a.sent q.ahead q.becomes) named
+      (fails_at s.b.end s.a.end.line s.b.capture.bytes s.b.ahead h.world.b h.world.a q.next refusal h.stands_b h.stands_a.sent q.ahead q.becomes)
+      named
   named_at A place NoSuchUnit q named =
       let w = waits_by_hint top q.reached.world.a q.reached.world.b q.next q.becomes in
       unit_named top.checks _ _ _ w.0 (ap hint_of (is_ahead s.a.capture.bytes s.a.ahead q.next q.ahead) ∙ w.1) refl
@@ -110,4 +117,5 @@ module _ (top : JudgeTop) (names : NamesRefusals top) (text_a text_b : Option (L
       by_finding : (finding : Finding) (summary : Summary) → StopsFor top of_a of_b finding → Names top s.a s.b s.failed finding →
           IsNamedBy top.checks (ends_by (answer_of finding summary) finding) (answer_of finding summary)
       by_finding findings.Accepted summary stops named = tt
-      by_finding (findings.Refused side place cause) summary stops named = on_side side place cause (answer_of (findings.Refused side place cause) summary) stops named
+      by_finding (findings.Refused side place cause) summary stops named =
+          on_side side place cause (answer_of (findings.Refused side place cause) summary) stops named

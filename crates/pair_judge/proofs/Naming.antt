@@ -46,7 +46,8 @@ module _ (periods : PeriodRule) (partners : PartnerRule) (s : WireLayers) (link 
   by_station : (arrival : ArrivalValue Tag) (o : Option FailedArrival) → of_station.failed_arrival periods s.station arrival (is_kept fate) ≡ o →
       failed_arrival_by periods partners s (with_link link arrival) fate ≡ or_next (option_map StationArrival o) (behind arrival)
   by_station arrival o is =
-      ap (λ (a : ArrivalValue Tag). or_next (option_map StationArrival (of_station.failed_arrival periods s.station a (is_kept fate))) (behind arrival))
+      ap (λ (a : ArrivalValue Tag).
+      or_next (option_map StationArrival (of_station.failed_arrival periods s.station a (is_kept fate))) (behind arrival))
       (without_link link arrival)
       ∙ ap (λ (x : Option FailedArrival). or_next (option_map StationArrival x) (behind arrival)) is
 

@@ -97,8 +97,8 @@ impl<O: Observer> Watched<O> {
 ///
 /// Both ends are given as they are where the verdict is. They show which records are ahead, and how many were made. Where the verdict is `Refused`,
 /// the named record is the one ahead of its side, and the end of this side has the check that it does not pass (`SideEnd::failed`), the reason of
-/// which is that of the verdict. Of nodes without queues (`Layers::Both`) besides: all records of the named side before the named one, and some of the other side, lead two
-/// nodes to a world in which the named record is refused for this reason, or waits; and both ends show this world.
+/// which is that of the verdict. Of nodes without queues (`Layers::Both`) besides: all records of the named side before the named one, and some of
+/// the other side, lead two nodes to a world in which the named record is refused for this reason, or waits; and both ends show this world.
 pub fn judge<O: Observer, R: Read, S: Read>(
     alloc: Global,
     asked: JudgedAs,

@@ -140,8 +140,8 @@ impl LoneEnd {
         requires room { HasRoomAlone self.old }
         requires hint { hint ≤ MAX_HINT }
         ensures made { IfOk result (λ made. MadeAloneIs T.top made self.old self.new (Record.Received hint fate bytes.now)) }
-        ensures named { (failed : Option Check) → IfOk result (λ made. IfFailsAlone made (NamesOwn T.top (Record.Received hint fate bytes.now) self.old
-            failed)) }
+        ensures named { (failed : Option Check) → IfOk result (λ made. IfFailsAlone made
+            (NamesOwn T.top (Record.Received hint fate bytes.now) self.old failed)) }
         ensures still { IfOk result (λ made. IfFailsAlone made (self.new ≡ self.old)) }
     {
         if hint < self.front {

@@ -24,10 +24,10 @@ use std::alloc::Global;
 
 /// The node sends these bytes on its line. They are held with their tags until they can't come any more.
 ///
-/// `Refused`, in this order: they are no sound message; the station may not send it now; the packet that it first sends can't be read, or
-/// the message in that; the links may not send it. Then `failed` has the check. `OutOfMemory`: there is no room on the line, for a new packet in the station, or for a
-/// piece in the links; the station may send the message then. After any of them the station may have gone on without its unit,
-/// so that no record can follow.
+/// `Refused`, in this order: they are no sound message; the station may not send it now; the packet that it first sends can't be read, or the message
+/// in that; the links may not send it. Then `failed` has the check. `OutOfMemory`: there is no room on the line, for a new packet in the station, or
+/// for a piece in the links; the station may send the message then. After any of them the station may have gone on without its unit, so that no
+/// record can follow.
 #[inline(always)]
 pub fn send<T: Top>(
     alloc: Global,

@@ -135,8 +135,8 @@ impl SideEnd {
     }
 
     /// The check of the record ahead, with what is seen there and what is allowed, where the judge names this record: `None` at the other side of a
-    /// pair. Where one end is judged alone, `None` too of a response or an acknowledgement that no right other end sends, or a message of other nodes,
-    /// that came.
+    /// pair. Where one end is judged alone, `None` too of a response or an acknowledgement that no right other end sends, or a message of other
+    /// nodes, that came.
     pub fn failed(&self) -> Option<FailedCheck>
         ensures { result ≡ self.now.failed }
     {

@@ -85,7 +85,8 @@ module _ (layers : Layers) (form : Form) (a : Moved) (streams : Moved × Moved) 
       (names : IsNamedAlone (checks_by layers false) end verdict)
       (reads : CountsReads (is_failed_read {A = Stop} (Ok (stop verdict end))) a.old.faults a.new.faults) where
     told_end : PrintsStop layers form streams (stop verdict end) verdict status → ExplainsEnd layers form a streams status
-    told_end printed = record { answer = Ok (stop verdict end); judged = judged; stands = unwatched stands; names = names; reads = reads; printed = printed }
+    told_end printed =
+        record { answer = Ok (stop verdict end); judged = judged; stands = unwatched stands; names = names; reads = reads; printed = printed }
 
     pub explains_pass : (counts : SideSummary) → verdict ≡ Passed counts → PrintsPass layers form streams counts status →
         ExplainsEnd layers form a streams status

@@ -138,7 +138,8 @@ fn fails(
 
 // The end stops where all of its records were made.
 fn passes<T: Top>(capture: CaptureReader, end: LoneEnd) -> StoppedEnd
-    ensures { result ≡ record { verdict = EndVerdict.Passed (summary_of_end T.top end); capture = capture; end = end; ahead = Ahead.Ended; failed = None } }
+    ensures { result ≡
+        record { verdict = EndVerdict.Passed (summary_of_end T.top end); capture = capture; end = end; ahead = Ahead.Ended; failed = None } }
 {
     StoppedEnd {
         verdict: EndVerdict::Passed(end.summary::<T>()),

@@ -51,8 +51,8 @@ impl SideLayers {
         ensures refused { IfErr result (IfRefused (λ refusal.
             (wire_layers_machine (rules_by OF_PERIOD OF_LINK QUEUES)).arrives self.old
             (with_link link.now (arrival_view arrival.entry)) fate ≡ Err refusal)) }
-        ensures named { IfErr result (IfRefused (λ refusal. failed.new ≡ named.failed_arrival_by (period_rule OF_PERIOD) (partner_rule OF_LINK) self.old
-            (with_link link.now (arrival_view arrival.entry)) fate)) }
+        ensures named { IfErr result (IfRefused (λ refusal. failed.new ≡ named.failed_arrival_by (period_rule OF_PERIOD) (partner_rule OF_LINK)
+            self.old (with_link link.now (arrival_view arrival.entry)) fate)) }
         ensures still { IfErr result (IfRefused (λ refusal. self.new ≡ self.old)) }
         ensures memory { IfErr result (IfNoMemory (MayKeep fate (is_damage (arrival_view arrival.entry)))) }
         ensures load { load self.new.station ≤ load self.old.station + 1 }

@@ -35,7 +35,8 @@ pub fn links_send<const QUEUES: u8>(
 ) -> Result<LinkTag, LinkFault>
     requires { nsp.IsInRange (nsp.view message.now) }
     ensures ok { IfOk result (λ tag. wire_links_sent (queues_of QUEUES) links.old
-        (record { dst = dst; src = src; message = nsp.view message.now }) ≡ Ok (record { links = links.new; truth = record { tag = tag; known = tt } })) }
+        (record { dst = dst; src = src; message = nsp.view message.now })
+        ≡ Ok (record { links = links.new; truth = record { tag = tag; known = tt } })) }
     ensures refused { IfErr result (λ fault. IsFault
         (wire_links_sent (queues_of QUEUES) links.old (record { dst = dst; src = src; message = nsp.view message.now }))
         (sending_takes_memory (queues_of QUEUES) links.old (nsp.view message.now)) fault) }
@@ -60,7 +61,8 @@ fn send_other<const QUEUES: u8>(
 ) -> Result<LinkTag, LinkFault>
     requires { nsp.IsInRange (nsp.view message.now) }
     ensures ok { IfOk result (λ tag. wire_links_sent (queues_of QUEUES) links.old
-        (record { dst = dst; src = src; message = nsp.view message.now }) ≡ Ok (record { links = links.new; truth = record { tag = tag; known = tt } })) }
+        (record { dst = dst; src = src; message = nsp.view message.now })
+        ≡ Ok (record { links = links.new; truth = record { tag = tag; known = tt } })) }
     ensures refused { IfErr result (λ fault. IsFault
         (wire_links_sent (queues_of QUEUES) links.old (record { dst = dst; src = src; message = nsp.view message.now }))
         (sending_takes_memory (queues_of QUEUES) links.old (nsp.view message.now)) fault) }
@@ -82,7 +84,8 @@ fn ask_and_send<const QUEUES: u8>(
 ) -> Result<LinkTag, LinkFault>
     requires { nsp.IsInRange (nsp.view message.now) }
     ensures ok { IfOk result (λ tag. wire_links_sent (queues_of QUEUES) links.old
-        (record { dst = dst; src = src; message = nsp.view message.now }) ≡ Ok (record { links = links.new; truth = record { tag = tag; known = tt } })) }
+        (record { dst = dst; src = src; message = nsp.view message.now })
+        ≡ Ok (record { links = links.new; truth = record { tag = tag; known = tt } })) }
     ensures refused { IfErr result (λ fault. IsFault
         (wire_links_sent (queues_of QUEUES) links.old (record { dst = dst; src = src; message = nsp.view message.now }))
         (sending_takes_memory (queues_of QUEUES) links.old (nsp.view message.now)) fault) }

@@ -39,9 +39,8 @@ impl SideLayers {
     /// The node sent this message: the tags that its unit goes with. A packet is read and goes to the links when it is first sent, and
     /// keeps the tag that it got then.
     ///
-    /// `Refused`, in this order: as the station refuses; `BadPacket`, `BadNsp`; as the links refuse. Then both layers are as they were, and `failed` has
-    /// the check.
-    /// `OutOfMemory`: memory for the packet, or for the piece of a message, was refused; the layers have no use after that.
+    /// `Refused`, in this order: as the station refuses; `BadPacket`, `BadNsp`; as the links refuse. Then both layers are as they were, and `failed`
+    /// has the check. `OutOfMemory`: memory for the packet, or for the piece of a message, was refused; the layers have no use after that.
     #[inline(always)]
     pub fn sent<const QUEUES: u8>(
         &mut self,
@@ -83,7 +82,8 @@ impl SideLayers {
         ensures ok { IfOk result (λ tag. (layers_run_by (queues_of QUEUES)).sends self.old (view message.now) ≡ Ok (self.new, tags_of tag)) }
         ensures refused { IfErr result (IfRefused (λ refusal. (layers_run_by (queues_of QUEUES)).sends self.old (view message.now) ≡ Err refusal)) }
         ensures named { IfErr result (IfRefused (λ refusal. failed.new ≡ named.failed_packet
-            (λ packet. option_map FailedCheck.LinkSending (failed_sending (queues_of QUEUES) self.old.links packet)) (packet_of (view message.now)))) }
+            (λ packet. option_map FailedCheck.LinkSending (failed_sending (queues_of QUEUES) self.old.links packet))
+            (packet_of (view message.now)))) }
         ensures still { IfErr result (IfRefused (λ refusal. self.new ≡ self.old)) }
         ensures load { load self.new.station ≤ load self.old.station }
     {

@@ -74,8 +74,8 @@ impl SideLayers {
         }
     }
 
-    /// The user of the links does this, and is refused as they refuse it: then `failed` has the check. `OutOfMemory`: memory for a link, an address or
-    /// a message was refused. `Up` and `Close` take none, nor does what is refused.
+    /// The user of the links does this, and is refused as they refuse it: then `failed` has the check. `OutOfMemory`: memory for a link, an address
+    /// or a message was refused. `Up` and `Close` take none, nor does what is refused.
     pub fn at_links<const QUEUES: u8>(
         &mut self,
         event: LinkEvent,

@@ -29,8 +29,8 @@ impl SideEnd {
     }
 }
 
-/// What fails of this record, which is refused for this reason at this end alone, and is of the reason: `named`, but of a receipt, of which no check is
-/// known.
+/// What fails of this record, which is refused for this reason at this end alone, and is of the reason: `named`, but of a receipt, of which no
+/// check is known.
 #[tactic(auto, using(crate::proofs::Entries::no_receipt))]
 pub fn named_alone<T: Top>(
     reason: Reason,

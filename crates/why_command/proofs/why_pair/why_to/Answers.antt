@@ -25,7 +25,8 @@ returns-in-Accepted g c =
     explains_acceptance c.args.printout.layers c.args.printout.form _ _ _ _ _ told.watched.ends
     (judged_there c.args.printout.layers of_a of_b (λ lent. g.A.Read.remaining lent.now) (λ lent. g.B.Read.remaining lent.now) _
     (rw c.of_period.ensures at told.ensures.answer))
-    (rw (of_a, of_b, c.of_period.ensures) at told.ensures.stands) (rw c.of_period.ensures at told.ensures.fails) c.in-Accepted.summary (sym c.verdict.ensures ∙ c.in-Accepted.is)
+    (rw (of_a, of_b, c.of_period.ensures) at told.ensures.stands) (rw c.of_period.ensures at told.ensures.fails) c.in-Accepted.summary
+    (sym c.verdict.ensures ∙ c.in-Accepted.is)
     c.print_accepted.ensures
 
 pub returns-in-Ok-refused_text : goal.returns-in-Ok-refused_text

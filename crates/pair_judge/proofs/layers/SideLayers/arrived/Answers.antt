@@ -38,8 +38,9 @@ returns-in-Err-keep-clause-named g c =
     let passes = rw c.is_kept-kept.ensures at c.in-Ok.ensures.passes in
     let taken = rw c.is_kept-kept.ensures at (sym c.in-Ok.ensures.taken ∙ ap option_copied c.in-Some.is) in
     rw (← c.self.view_is)
-    (if_refused c.in-Err-keep.fault (λ refusal is. is ∙ sym (links_name_arrival _ _ (record { station = c.self.inside.station; links = c.self.inside.links })
-    c.args.link.now c.args.fate (arrival_view c.args.arrival) c.in-Some.packet.now _
+    (if_refused c.in-Err-keep.fault (λ refusal is. is ∙ sym (links_name_arrival _ _
+    (record { station = c.self.inside.station; links = c.self.inside.links }) c.args.link.now c.args.fate (arrival_view c.args.arrival)
+    c.in-Some.packet.now _
     (sym c.is_met.ensures ∙ c.if-not-is_met.false) passes taken c.tag_of.ensures))
     (rw (← c.self.view_is) at c.in-Err-keep.ensures.named))
 
