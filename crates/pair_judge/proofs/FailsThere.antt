@@ -188,11 +188,25 @@ module _ (checks : NodeChecks) (own other : ShownEnd) (units : List WireLayersUn
       IsNamedFor checks (reason_of NoSuchUnit) own other units
   unit_named hint is_hint is =
       let found = ap (λ (o : Option Awaited). option_map failed.NoSuchUnit o) (awaits own.ahead other.sent hint is_hint) in
-      record { cause = NoSuchUnit; check = _; named = is ∙ found; is = found; caused = refl; is_reason = refl }
+      record {
+        cause = NoSuchUnit;
+        check = failed.NoSuchUnit (record { hint = hint; sent = other.sent });
+        named = is ∙ found;
+        is = found;
+        caused = refl;
+        is_reason = refl;
+      }
 
   pub order_named : (hint far : ℕ) → hint_of own.ahead ≡ Some hint → hint_of other.ahead ≡ Some far →
       own.failed ≡ failed_for checks NoOrder own other units → IsNamedFor checks (reason_of NoOrder) own other units
   order_named hint far is_hint is_far is =
       let found = ap (λ (o : Option Awaited). both_await o (awaited other.ahead own.sent)) (awaits own.ahead other.sent hint is_hint)
       ∙ ap (λ (o : Option Awaited). both_await (Some (record { hint = hint; sent = other.sent })) o) (awaits other.ahead own.sent far is_far) in
-      record { cause = NoOrder; check = _; named = is ∙ found; is = found; caused = refl; is_reason = refl }
+      record {
+        cause = NoOrder;
+        check = failed.NoOrder (record { hint = hint; sent = other.sent }) (record { hint = far; sent = own.sent });
+        named = is ∙ found;
+        is = found;
+        caused = refl;
+        is_reason = refl;
+      }

@@ -71,29 +71,35 @@ module _ (top : JudgeTop) (names : NamesRefusals top) (text_a text_b : Option (L
       (of_side side (held s.b.end.line) (held s.a.end.line))
   named_at A place (Step refusal) q named =
       let h = q.reached in
-      step_named top.checks _ _ _ refusal
+      step_named top.checks (end_a (check_of A A place (Step refusal))) (end_b (check_of B A place (Step refusal)))
+      (held s.b.end.line) refusal
       (fails_at s.a.end s.b.end.line s.a.capture.bytes s.a.ahead h.world.a h.world.b q.next refusal h.stands_a h.stands_b.sent q.ahead q.becomes)
       named
   named_at B place (Step refusal) q named =
       let h = q.reached in
-      step_named top.checks _ _ _ refusal
+      step_named top.checks (end_b (check_of B B place (Step refusal))) (end_a (check_of A B place (Step refusal)))
+      (held s.a.end.line) refusal
       (fails_at s.b.end s.a.end.line s.b.capture.bytes s.b.ahead h.world.b h.world.a q.next refusal h.stands_b h.stands_a.sent q.ahead q.becomes)
       named
   named_at A place NoSuchUnit q named =
       let w = waits_by_hint top q.reached.world.a q.reached.world.b q.next q.becomes in
-      unit_named top.checks _ _ _ w.0 (ap hint_of (is_ahead s.a.capture.bytes s.a.ahead q.next q.ahead) ∙ w.1) refl
+      unit_named top.checks (end_a (check_of A A place NoSuchUnit)) (end_b (check_of B A place NoSuchUnit)) (held s.b.end.line) w.0
+      (ap hint_of (is_ahead s.a.capture.bytes s.a.ahead q.next q.ahead) ∙ w.1) refl
   named_at B place NoSuchUnit q named =
       let w = waits_by_hint top q.reached.world.b q.reached.world.a q.next q.becomes in
-      unit_named top.checks _ _ _ w.0 (ap hint_of (is_ahead s.b.capture.bytes s.b.ahead q.next q.ahead) ∙ w.1) refl
+      unit_named top.checks (end_b (check_of B B place NoSuchUnit)) (end_a (check_of A B place NoSuchUnit)) (held s.a.end.line) w.0
+      (ap hint_of (is_ahead s.b.capture.bytes s.b.ahead q.next q.ahead) ∙ w.1) refl
   named_at A place NoOrder q named =
       let w = waits_by_hint top q.reached.world.a q.reached.world.b q.next q.becomes in
       let far = waits_by_hint top q.reached.world.b q.reached.world.a q.other.0 q.other.2 in
-      order_named top.checks _ _ _ w.0 far.0 (ap hint_of (is_ahead s.a.capture.bytes s.a.ahead q.next q.ahead) ∙ w.1)
+      order_named top.checks (end_a (check_of A A place NoOrder)) (end_b (check_of B A place NoOrder)) (held s.b.end.line) w.0 far.0
+      (ap hint_of (is_ahead s.a.capture.bytes s.a.ahead q.next q.ahead) ∙ w.1)
       (ap hint_of (is_ahead s.b.capture.bytes s.b.ahead q.other.0 q.other.1) ∙ far.1) refl
   named_at B place NoOrder q named =
       let w = waits_by_hint top q.reached.world.b q.reached.world.a q.next q.becomes in
       let far = waits_by_hint top q.reached.world.a q.reached.world.b q.other.0 q.other.2 in
-      order_named top.checks _ _ _ w.0 far.0 (ap hint_of (is_ahead s.b.capture.bytes s.b.ahead q.next q.ahead) ∙ w.1)
+      order_named top.checks (end_b (check_of B B place NoOrder)) (end_a (check_of A B place NoOrder)) (held s.a.end.line) w.0 far.0
+      (ap hint_of (is_ahead s.b.capture.bytes s.b.ahead q.next q.ahead) ∙ w.1)
       (ap hint_of (is_ahead s.a.capture.bytes s.a.ahead q.other.0 q.other.1) ∙ far.1) refl
 
   abbrev ends_by : Verdict → Finding → ShownEnds
