@@ -28,6 +28,7 @@ mod line_unit;
 mod lone_end;
 mod made_entry;
 mod making;
+mod naming;
 mod noise;
 mod observer;
 mod packet;

@@ -10,6 +10,7 @@ ghost use Rattle.pair_judge.specs.inner.Wire.{judge_hears};
 use crate::failed_check::FailedCheck;
 use crate::held_link::HeldLink;
 use crate::layers::SideLayers;
+use crate::naming::name_noise;
 use crate::step_fault::StepFault;
 use crate::top::Top;
 use capture_record::Fate;
@@ -54,6 +55,6 @@ fn not_noise(failed: &mut Option<FailedCheck>) -> StepRefusal
     ensures refusal { result ≡ StepRefusal.NotNoise }
     ensures named { failed.new ≡ Some FailedCheck.Noise }
 {
-    *failed = Some(FailedCheck::Noise);
+    name_noise(failed);
     StepRefusal::NotNoise
 }

@@ -19,6 +19,7 @@ use crate::failed_check::FailedCheck;
 use crate::layers::SideLayers;
 use crate::line::Line;
 use crate::line_unit::LineUnit;
+use crate::naming::{name_order, name_undetected};
 use crate::step_fault::StepFault;
 use crate::top::Top;
 use capture_record::Fate;
@@ -67,17 +68,14 @@ pub fn receive<T: Top>(
     ensures load { load layers.new.station ≤ load layers.old.station + 1 }
 {
     if hint < line.gone {
-        *failed = Some(FailedCheck::HintOrder {
-            seen: hint,
-            lowest: line.gone,
-        });
+        name_order(hint, line.gone, failed);
         return Ok(Receipt::Fails(StepRefusal::HintOrder));
     }
     match line.unit(hint) {
         None => Ok(Receipt::Waits),
         Some(unit) => match coming(&unit, bytes) {
             None => {
-                *failed = Some(FailedCheck::Undetected { unit: hint });
+                name_undetected(hint, failed);
                 Ok(Receipt::Fails(StepRefusal::Undetected))
             }
             Some(arrival) => {

@@ -15,6 +15,7 @@ ghost use Rattle.pair_judge.specs.inner.Wire.{judge_sent_step};
 use crate::failed_check::{FailedCheck, NotSound};
 use crate::layers::SideLayers;
 use crate::line::Line;
+use crate::naming::name_message;
 use crate::step_fault::StepFault;
 use crate::top::Top;
 use crate::unit_tag::UnitTag;
@@ -87,6 +88,6 @@ pub fn not_sound(seen: NotSound, failed: &mut Option<FailedCheck>) -> StepRefusa
     ensures refusal { result ≡ StepRefusal.NotAMessage }
     ensures named { failed.new ≡ Some (FailedCheck.Message seen) }
 {
-    *failed = Some(FailedCheck::Message(seen));
+    name_message(seen, failed);
     StepRefusal::NotAMessage
 }

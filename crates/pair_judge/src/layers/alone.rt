@@ -6,6 +6,7 @@ use super::SideLayers;
 use super::naming::{name_arrival, name_sending};
 use crate::failed_check::FailedCheck;
 use crate::held_link::HeldLink;
+use crate::naming::name_start;
 use crate::step_fault::StepFault;
 use crate::top::Top;
 use crate::unit_tag::UnitTag;
@@ -34,7 +35,7 @@ impl<const OF_PERIOD: bool> Top for NothingOnTop<OF_PERIOD> {
         match layers.station.user(event) {
             Ok(()) => Ok(()),
             Err(refusal) => {
-                *failed = Some(FailedCheck::StationEvent { seen });
+                name_start(seen, failed);
                 Err(StepRefusal::Station(refusal))
             }
         }

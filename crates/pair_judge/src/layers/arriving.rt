@@ -20,6 +20,7 @@ use super::naming::name_arrival;
 use super::{OF_NO_LINK, SideLayers};
 use crate::failed_check::FailedCheck;
 use crate::held_link::HeldLink;
+use crate::naming::{name_nsp, name_packet};
 use crate::packet::{Carried, content};
 use crate::step_fault::StepFault;
 use capture_record::Fate;
@@ -107,7 +108,7 @@ impl SideLayers {
             Ok(Some(carried)) => self.take::<OF_LINK, QUEUES>(carried, tag, failed),
             Ok(None) => Ok(()),
             Err(fault) => {
-                *failed = Some(FailedCheck::Packet(fault));
+                name_packet(fault, failed);
                 Err(StepFault::Refused(StepRefusal::BadPacket))
             }
         }
@@ -145,7 +146,7 @@ impl SideLayers {
                 Err(LinkFault::OutOfMemory) => Err(StepFault::OutOfMemory),
             },
             Err(fault) => {
-                *failed = Some(FailedCheck::Nsp(*fault));
+                name_nsp(fault, failed);
                 Err(StepFault::Refused(StepRefusal::BadNsp))
             }
         }

@@ -16,6 +16,7 @@ ghost use Rattle.pair_judge.specs.inner.Named.{IfLinksRefuse};
 
 use super::Links;
 use crate::failed_check::FailedCheck;
+use crate::naming::{name_link_arrival, name_link_event, name_link_sending};
 use dna_links::LinkTag;
 use dna_packet::Nsp;
 use nsp_link::{LinkEvent, LinkFault};
@@ -99,7 +100,7 @@ fn ask_and_send<const QUEUES: u8>(
             Err(AllocError) => Err(LinkFault::OutOfMemory),
         },
         Err(check) => {
-            *failed = Some(FailedCheck::LinkSending(check));
+            name_link_sending(&check, failed);
             Err(LinkFault::Refused(check.refusal()))
         }
     }
@@ -181,7 +182,7 @@ fn ask_and_take<const OF_PAIR: bool, const QUEUES: u8>(
             Err(AllocError) => Err(LinkFault::OutOfMemory),
         },
         Err(check) => {
-            *failed = Some(FailedCheck::LinkArrival(check));
+            name_link_arrival(&check, failed);
             Err(LinkFault::Refused(check.refusal()))
         }
     }
@@ -256,7 +257,7 @@ fn ask_and_act<const QUEUES: u8>(
             Err(AllocError) => Err(LinkFault::OutOfMemory),
         },
         Err(check) => {
-            *failed = Some(FailedCheck::LinkEvent(check));
+            name_link_event(&check, failed);
             Err(LinkFault::Refused(check.refusal()))
         }
     }

@@ -24,6 +24,7 @@ use super::asking::links_send;
 use super::naming::name_sending;
 use super::{OF_NO_LINK, SideLayers};
 use crate::failed_check::FailedCheck;
+use crate::naming::{name_nsp, name_packet};
 use crate::packet::{Carried, content};
 use crate::step_fault::StepFault;
 use crate::unit_tag::UnitTag;
@@ -94,7 +95,7 @@ impl SideLayers {
             },
             Ok(None) => OF_NO_LINK,
             Err(fault) => {
-                *failed = Some(FailedCheck::Packet(fault));
+                name_packet(fault, failed);
                 return Err(StepFault::Refused(StepRefusal::BadPacket));
             }
         };
@@ -152,7 +153,7 @@ impl SideLayers {
             },
             Ok(None) => Ok(()),
             Err(fault) => {
-                *failed = Some(FailedCheck::Packet(fault));
+                name_packet(fault, failed);
                 Err(StepFault::Refused(StepRefusal::BadPacket))
             }
         }
@@ -191,7 +192,7 @@ impl SideLayers {
                 Err(LinkFault::OutOfMemory) => Err(StepFault::OutOfMemory),
             },
             Err(fault) => {
-                *failed = Some(FailedCheck::Nsp(*fault));
+                name_nsp(fault, failed);
                 Err(StepFault::Refused(StepRefusal::BadNsp))
             }
         }

@@ -17,6 +17,7 @@ ghost use Rattle.pair_judge.specs.inner.Tops.{layers_run, layers_run_by};
 use super::SideLayers;
 use super::asking::links_do;
 use crate::failed_check::FailedCheck;
+use crate::naming::name_start;
 use crate::step_fault::StepFault;
 use ddcmp_station::StationEvent;
 use dna_station::StepRefusal;
@@ -41,7 +42,7 @@ impl SideLayers {
         match self.station.user(event) {
             Ok(()) => Ok(()),
             Err(refusal) => {
-                *failed = Some(FailedCheck::StationEvent { seen });
+                name_start(seen, failed);
                 Err(StepRefusal::Station(refusal))
             }
         }

@@ -104,13 +104,16 @@ returns-in-Err-Refused-clause-receipt g c = λ sent shows.
 
 pub returns-then-hint-line-clause-named : goal.returns-then-hint-line-clause-named
 returns-then-hint-line-clause-named g c =
-    sym (back_is_named g.T.Top.top.checks c.args.layers.now c.args.line.now.gone (held c.args.line.now) c.args.hint c.args.fate c.args.bytes.now
+    c.name_order.ensures
+    ∙ sym (back_is_named g.T.Top.top.checks c.args.layers.now c.args.line.now.gone (held c.args.line.now) c.args.hint c.args.fate c.args.bytes.now
     c.if-hint-line.true)
 
 pub returns-in-None-coming-clause-named : goal.returns-in-None-coming-clause-named
 returns-in-None-coming-clause-named g c =
     let unit = c.in-Some.unit in
-    sym (coming_is_named g.T.Top.top.checks c.args.layers.now c.args.line.now.gone (held c.args.line.now) c.args.hint c.args.fate c.args.bytes.now
+    c.name_undetected.ensures
+    ∙ sym (coming_is_named g.T.Top.top.checks c.args.layers.now c.args.line.now.gone (held c.args.line.now) c.args.hint c.args.fate
+    c.args.bytes.now
     unit None c.if-hint-line.false (sym (sym c.in-Some.is ∙ c.unit.ensures))
     (ap (option_map (λ arrival. with_link unit.known.link (arrival_view arrival))) (sym c.in-None-coming.is) ∙ c.coming.ensures.coming))
 
