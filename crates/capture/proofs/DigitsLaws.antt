@@ -60,7 +60,7 @@ pub pairs_of_digits : (b : ℕ) (text : List ℕ) → list_all is_digit (b ∷ t
 unfolding pairs_at
 pairs_of_digits b text e = rw (digits_lower (b ∷ text) e) refl
 
-pairs_even : (text bytes : List ℕ) → pairs_at text ≡ Some bytes → length text % 2 ≡ 0
+pub pairs_even : (text bytes : List ℕ) → pairs_at text ≡ Some bytes → length text % 2 ≡ 0
 unfolding pairs_at
 pairs_even [] bytes e = refl
 pairs_even (b ∷ text) bytes e =

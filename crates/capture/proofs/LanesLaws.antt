@@ -1,15 +1,17 @@
 -- Digits in vectors: their values, lane by lane, and the bytes that are made of these.
-use Rattle.std.proofs.Common.{◌≡◌, ℕ, zero, suc, ◌+◌, ◌*◌, ◌/◌, ◌%◌, ◌<◌, ◌≤◌, Bool, true, false, cond, eqb, not, ◌&&◌, ◌||◌, List, [], ◌∷◌}
-use Rattle.std.proofs.Common.{length, map, get_or, refl, sym, ap, ap₂, ◌∙◌, subst, inl, inr, arith, bit_and, bit_or, Fits, w8}
-use Rattle.std.specs.List.{list_all}
-use Rattle.std.proofs.lemmas.Bool.{agree_below, agree_below_at, cases_Bool, eqb-true, ltb-true, ne_eqb}
-use Rattle.std.proofs.lemmas.Simd.{map-map, zip2_of_maps, Each1-get_or, below_from_Fits, get_or_wider, length-chunk, get_or-chunk, put_chunk_is}
-use Rattle.std.proofs.lemmas.List.{length-map, get_or-map, set-get_or}
+use Rattle.std.proofs.Common.{◌≡◌, ℕ, zero, suc, ◌+◌, ◌*◌, ◌/◌, ◌%◌, ◌^◌, ◌<◌, ◌≤◌, Bool, true, false, cond, eqb, leb, not, ◌&&◌, ◌||◌, List, [], ◌∷◌}
+use Rattle.std.proofs.Common.{length, replicate, take, drop, ◌++◌, map, get_or, refl, sym, ap, ap₂, ◌∙◌, subst, inl, inr, arith, bit_and, bit_or, Fits, w8}
+use Rattle.std.specs.List.{list_all, prefix_len}
+use Rattle.std.proofs.lemmas.Bool.{not-true, leb-false, lt-ltb, cases_eq, agree_below, agree_below_at, cases_Bool, eqb-true, ltb-true, ne_eqb}
+use Rattle.std.proofs.lemmas.Simd.{trailing_mask_l, leading_from_mask_l, tops_compared, zip2_splat_left, mask_l-mod, map-map, zip2_of_maps, Each1-get_or, below_from_Fits, get_or_wider, length-chunk, get_or-chunk, put_chunk_is}
+use Rattle.std.proofs.lemmas.List.{length-map, get_or-map, set-get_or, take-take, length-take-le, take-append-drop, append_assoc}
 use Rattle.std.proofs.lemmas.List.Folds.{list_all_at}
+use Rattle.std.proofs.lemmas.List.Sums.{prefix_len_passes}
 use Rattle.std.proofs.lemmas.Nat.{le_or_l, le_or_r}
 use Rattle.std.proofs.Math.Bool.{and_assoc}
-use lib.Lanes.{Each1, chunk, zip2, sel_l, top, fold_l, number_l, digits_l, put_chunk}
-use Rattle.hex.specs.Hex.{IsBytes, lower_digits}
+use lib.Count.{count_trailing_zeros}
+use lib.Lanes.{mask_l, Each1, chunk, zip2, sel_l, top, fold_l, number_l, digits_l, put_chunk}
+use Rattle.hex.specs.Hex.{IsBytes, lower_digits, encode_lower}
 use Rattle.capture.specs.Reading.{is_digit}
 use Rattle.capture.specs.inner.Lanes.{HasValues, HasJoined, is_value}
 use Rattle.capture.specs.inner.Spelled.{IsSpelled}
@@ -90,6 +92,45 @@ none_high a (b ∷ v) fits =
 pub small_by : (v highs : List ℕ) → Each1 (Fits w8) v → highs ≡ map high_bits v → eqb (fold_l bit_or 0 highs) 0 ≡ list_all is_value v
 small_by v highs fits is = ap (λ l. eqb (fold_l bit_or 0 l) 0) is ∙ none_high 0 v fits
 
+-- ---- the first lane that holds no value
+
+other_stops : (v : List ℕ) → list_all is_value v ≡ false → prefix_len (λ x. not (leb 16 x)) v < length v
+other_stops [] e = absurd cc
+other_stops (x ∷ v) e =
+    elim (cases_Bool (leb 16 x)) [
+      | inl other ↦ rw other (omega arith)
+      | inr value ↦
+          let small = leb-false 16 x value in
+          let is : is_value x ≡ true = lt-ltb x 16 (omega arith) in
+          let later : list_all is_value v ≡ false = rw is at e in
+          let ih = other_stops v later in
+          rw value (omega arith)
+    ]
+
+-- the mask of the lanes that hold no value
+pub compared_mask : (v : List ℕ) (n : ℕ) → length v ≡ n → n ≤ 64
+    → mask_l (map (top 7) (zip2 (λ a b. cond (leb a b) 255 0) (replicate n 16) v)) % 2 ^ 64 ≡ mask_l (map (λ x. leb 16 x) v)
+compared_mask v n long few =
+    ap (λ l. mask_l l % 2 ^ 64) (tops_compared w8 leb (replicate n 16) v ∙ zip2_splat_left leb 16 n v long)
+    ∙ mask_l-mod (map (λ x. leb 16 x) v) 64 (omega (arith, length-map v (λ x. leb 16 x), long, few))
+
+-- the lowest bit of the mask
+pub values_end : (v : List ℕ) (n mask : ℕ) → length v ≡ n → n ≤ 64 → list_all is_value v ≡ false → mask ≡ mask_l (map (λ x. leb 16 x) v)
+    → (count_trailing_zeros 64 mask < n) × ((k : ℕ) → k < count_trailing_zeros 64 mask → is_value (get_or v k 0) ≡ true)
+values_end v n mask long few e is =
+    let before = other_stops v e in
+    let some : 0 < mask_l (map (λ x. leb 16 x) v) =
+    elim (cases_eq (mask_l (map (λ x. leb 16 x) v)) 0) [
+      | inl none ↦ absurd (omega (arith, leading_from_mask_l (λ x. leb 16 x) v none, before))
+      | inr other ↦ omega (arith, other)
+    ] in
+    let counted = ap (count_trailing_zeros 64) is ∙ trailing_mask_l (λ x. leb 16 x) 64 v (omega (arith, long, few)) some in (
+      omega (arith, counted, before, long),
+      λ k lt.
+          let passed = prefix_len_passes (λ x. not (leb 16 x)) v k 0 (omega (arith, counted, lt)) in
+          lt-ltb _ 16 (let small = leb-false 16 (get_or v k 0) (not-true _ passed) in omega arith),
+    )
+
 -- ---- bytes of two values
 
 abbrev byte_of : ℕ → ℕ
@@ -140,40 +181,57 @@ joined_of n values long fits =
 
 -- ---- what they spell
 
-value_at : (values : List ℕ) (k : ℕ) → k < length values → list_all is_value values ≡ true → is_value (get_or values k 0) ≡ true
+pub value_at : (values : List ℕ) (k : ℕ) → k < length values → list_all is_value values ≡ true → is_value (get_or values k 0) ≡ true
 value_at values k lt all =
     elim (cases_Bool (is_value (get_or values k 0))) [
       | inl found ↦ found
       | inr other ↦ absurd (let none = list_all_at is_value values k 0 lt other in cc)
     ]
 
-spelled_to : (bytes values characters : List ℕ) → HasValues values characters → HasJoined bytes values → list_all is_value values ≡ true
-    → (n : ℕ) → n ≤ length bytes → IsSpelled bytes characters n
-spelled_to bytes values characters has made all zero le = none_spelled bytes characters
-spelled_to bytes values characters has made all (suc n) le =
-    let a = value_at values (2 * n) (omega (arith, made.long, le)) all in
-    let b = value_at values (2 * n + 1) (omega (arith, made.long, le)) all in
+spelled_to : (bytes values characters : List ℕ) → HasValues values characters → HasJoined bytes values → (n : ℕ) → n ≤ length bytes
+    → ((k : ℕ) → k < 2 * n → is_value (get_or values k 0) ≡ true) → IsSpelled bytes characters n
+spelled_to bytes values characters has made zero le each = none_spelled bytes characters
+spelled_to bytes values characters has made (suc n) le each =
+    let a = each (2 * n) (omega arith) in
+    let b = each (2 * n + 1) (omega arith) in
     let byte = made.each n (omega (arith, le)) a b in
     let small = ltb-true _ _ b in
     let high : get_or bytes n 0 / 16 ≡ get_or values (2 * n) 0 = omega (arith, byte, small) in
     let low : get_or bytes n 0 % 16 ≡ get_or values (2 * n + 1) 0 = omega (arith, byte, small) in
-    let before = spelled_to bytes values characters has made all n (omega (arith, le)) in
+    let before = spelled_to bytes values characters has made n (omega (arith, le)) (λ k lt. each k (omega (arith, lt))) in
     let next = byte_spelled bytes characters n (get_or bytes n 0) (omega (arith, le)) (omega (arith, made.long, has.long)) before
     (ap (λ d. get_or lower_digits d 0) high ∙ has.spelled (2 * n) (omega (arith, made.long, has.long, le)) a)
     (ap (λ d. get_or lower_digits d 0) low ∙ has.spelled (2 * n + 1) (omega (arith, made.long, has.long, le)) b) in
     let more : n + 1 ≡ suc n = omega arith in
     subst (λ m. IsSpelled bytes characters m) more (subst (λ l. IsSpelled l characters (n + 1)) (set-get_or bytes n 0) next)
 
--- bytes of the values of digits, stored at the place that these have in a text
+-- bytes of the values of digits, of which the first 2 m are digits, stored at the place that these have in a text
+pub front_spelled : (bytes text values piece : List ℕ) (at n m : ℕ) → HasValues values (chunk (2 * at) (2 * n) text) → HasJoined piece values
+    → m ≤ n → ((k : ℕ) → k < 2 * m → is_value (get_or values k 0) ≡ true) → 2 * at + 2 * n ≤ length text → at + n ≤ length bytes
+    → IsSpelled bytes text at → IsSpelled (put_chunk at bytes piece) text (at + m)
+front_spelled bytes text values piece at n m has made fewer each long within before =
+    let size : length piece ≡ n = omega (arith, made.long, has.long, length-chunk (2 * at) (2 * n) text long) in
+    let here = spelled_to piece values (chunk (2 * at) (2 * n) text) has made m (omega (arith, size, fewer)) each in
+    let place = drop (2 * at) text in
+    let front : IsSpelled (take m piece) (take (2 * m) place) m =
+    ap encode_lower (take-take m m piece (omega arith)) ∙ here ∙ take-take (2 * m) (2 * n) place (omega (arith, fewer))
+    ∙ sym (take-take (2 * m) (2 * m) place (omega arith)) in
+    let rest = drop (length piece) (drop at bytes) in
+    let split : take m piece ++ (drop m piece ++ rest) ≡ piece ++ rest =
+    sym (append_assoc (take m piece) (drop m piece) rest) ∙ ap (λ t. t ++ rest) (take-append-drop m piece) in
+    rw (put_chunk_is at bytes piece (omega (arith, size, within)))
+    (subst (λ t. IsSpelled (take at bytes ++ t) text (at + m)) split
+    (piece_spelled bytes text (take m piece) (drop m piece ++ rest) at m (2 * m) (length-take-le m piece (omega (arith, size, fewer))) refl
+    (omega (arith, within)) before front))
+
+-- the same of digits alone
 pub block_spelled : (bytes text values piece : List ℕ) (at n : ℕ) → HasValues values (chunk (2 * at) (2 * n) text) → HasJoined piece values
     → list_all is_value values ≡ true → length text ≡ 2 * length bytes → at + n ≤ length bytes → IsSpelled bytes text at
     → IsSpelled (put_chunk at bytes piece) text (at + n)
 block_spelled bytes text values piece at n has made all twice within before =
     let long = length-chunk (2 * at) (2 * n) text (omega (arith, twice, within)) in
-    let size : length piece ≡ n = omega (arith, made.long, has.long, long) in
-    let here = spelled_to piece values (chunk (2 * at) (2 * n) text) has made all n (omega (arith, size)) in
-    rw (put_chunk_is at bytes piece (omega (arith, size, within)))
-    (piece_spelled bytes text piece _ at n (2 * n) size refl (omega (arith, within)) before here)
+    front_spelled bytes text values piece at n n has made (omega arith)
+    (λ k lt. value_at values k (omega (arith, has.long, long, lt)) all) (omega (arith, twice, within)) within before
 
 -- bytes stored among bytes
 pub bytes_put : (i : ℕ) (xs ys : List ℕ) → IsBytes xs → IsBytes ys → IsBytes (put_chunk i xs ys)

@@ -9,6 +9,7 @@ pub mod Shown
 pub mod EventLaws
 pub mod HintLaws
 pub mod NumberedLaws
+pub mod FrontLaws
 pub mod RecordLaws
 pub mod HeadLaws
 pub mod PartHead
@@ -18,6 +19,7 @@ pub mod BlockLaws
 pub mod LineLaws
 pub mod SeekLaws
 pub mod TakeLaws
+pub mod AheadLaws
 pub mod LackLaws
 pub mod SidedLaws
 pub mod TextLaws

@@ -3,6 +3,7 @@ pub mod Block
 pub mod Captured
 pub mod PageBlock
 pub mod Lanes
+pub mod Ahead
 pub mod Spelled
 pub mod Outlets
 pub mod ListTurn

@@ -1,6 +1,6 @@
 //! Digits as they are read many at a time, in vectors of bytes.
 
-ghost use Rattle.std.specs.Prelude.{◌≡◌, ◌+◌, ◌*◌, ◌≤◌, ◌<◌, ℕ, length, slice_index};
+ghost use Rattle.std.specs.Prelude.{true, false, ◌≡◌, ◌+◌, ◌*◌, ◌≤◌, ◌<◌, ℕ, length, slice_index};
 ghost use Rattle.std.specs.List.{list_all};
 ghost use Rattle.capture.specs.inner.Lanes.{HasValues, HasJoined, is_value};
 
@@ -24,6 +24,19 @@ pub(crate) fn are_values<const N: usize>(values: Simd<u8, N>) -> bool
     ensures { result ≡ list_all is_value values.entry }
 {
     (values & Simd::splat(0xf0)).reduce_or() == 0
+}
+
+// How many of the first have the low four bits alone, where there is one that has more.
+#[inline(always)]
+pub(crate) fn values_before(values: u8x32) -> usize
+    requires { list_all is_value values ≡ false }
+    ensures within { result < 32 }
+    ensures before { (k : ℕ) → k < result → is_value (slice_index values k) ≡ true }
+{
+    values
+        .simd_ge(u8x32::splat(16))
+        .to_bitmask()
+        .trailing_zeros() as usize
 }
 
 // The bytes of such values: two in a lane of 16 bits are multiplied so that the first stands before the second.

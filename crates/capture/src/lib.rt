@@ -6,6 +6,7 @@
 #![tactic(auto)]
 
 mod address;
+mod ahead;
 mod converting;
 mod digits;
 mod entry_line;

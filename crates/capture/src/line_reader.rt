@@ -74,7 +74,8 @@ impl LineReader {
         self.taken
     }
 
-    fn unread(&self) -> &[u8]
+    /// The bytes that were read ahead. Takes no memory.
+    pub(crate) fn unread(&self) -> &[u8]
         ensures { result.now ≡ self.now.unread }
     {
         &self.block[self.start..self.end]

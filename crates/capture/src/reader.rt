@@ -1,6 +1,6 @@
 //! Reading a capture, record by record.
 
-ghost use Rattle.std.specs.Prelude.{◌≡◌, ◌≤◌, ◌+◌, length, take, Ok, Err, None, IfOk, IfSome};
+ghost use Rattle.std.specs.Prelude.{◌≡◌, ◌≤◌, ◌+◌, length, take, Ok, Err, None, IfOk, IfSome, MatchOption};
 ghost use Rattle.wire_base.specs.Tally.{tally_faults, tally_lent};
 ghost use Rattle.capture_record.specs.declared.limit.TheConstants.{MAX_MESSAGE};
 ghost use Rattle.capture.specs.declared.limit.TheConstants.{MAX_RECORDS};
@@ -10,9 +10,11 @@ ghost use Rattle.capture.specs.Entries.{recorded, recorded_in};
 ghost use Rattle.capture.specs.Faulty.{CountsReads, is_failed_read};
 ghost use Rattle.capture.specs.Range.{FormFits};
 ghost use Rattle.capture.specs.Reader.{NextGives, Opens, TakesRecord, WhereReadFails};
+ghost use Rattle.capture.specs.inner.Ahead.{IsTaken};
 ghost use Rattle.capture.specs.inner.Captured.{state_at};
 ghost use Rattle.capture.specs.Text.{format_number, format_of, record_text};
 
+use crate::ahead::record_ahead;
 use crate::fault::{CaptureFault, Departure, LineFault};
 use crate::hint::HintForm;
 use crate::limit::MAX_RECORDS;
@@ -67,6 +69,53 @@ impl Model for CaptureReader {
 // One record's turn, with its bytes at the front of the room: how many they are beside its entry.
 #[inline(always)]
 fn take_entry<R: Read>(
+    wording: &Wording,
+    lines: &mut LineReader,
+    room: &mut [u8],
+    reader: &mut Tally<R>,
+) -> Result<Option<(Entry, usize)>, CaptureFault>
+    requires form { FormFits wording.now.form }
+    requires head { 1 ≤ lines.old.taken }
+    requires few { lines.old.taken ≤ MAX_RECORDS + 1 }
+    requires room { length room.old ≡ MAX_MESSAGE }
+    ensures takes { TakesRecord (record { form = wording.now.form; taken = lines.old.taken }) lines.new.taken
+        (to_come lines.old.unread (R.remaining (tally_lent reader.old)))
+        (to_come lines.new.unread (R.remaining (tally_lent reader.new))) (recorded_in room.new result) }
+    ensures cut { WhereReadFails (is_failed_read result)
+        (IsCutBehind (to_come lines.old.unread (R.remaining (tally_lent reader.old))) (R.remaining (tally_lent reader.new))) }
+    ensures room { length room.new ≡ MAX_MESSAGE }
+    ensures len { IfOk result (λ taken. IfSome taken (λ entry. entry.1 ≤ MAX_MESSAGE)) }
+    ensures line { IfOk result (λ taken. IfSome taken (λ entry.
+        lines.new.last ≡ record_text wording.now.form (record_with entry.0 (take entry.1 room.new)))) }
+    ensures memory { result ≡ Err CaptureFault.OutOfMemory → ⊥ }
+    ensures reads { CountsReads (is_failed_read result) (tally_faults reader.old) (tally_faults reader.new) }
+{
+    match take_ahead(wording, lines, room) {
+        Some(entry) => Ok(Some(entry)),
+        None => take_sought(wording, lines, room, reader),
+    }
+}
+
+// The same where the record is among the bytes that were read ahead, and read at once.
+#[inline(never)]
+fn take_ahead(wording: &Wording, lines: &mut LineReader, room: &mut [u8]) -> Option<(Entry, usize)>
+    requires few { lines.old.taken ≤ MAX_RECORDS + 1 }
+    requires room { length room.old ≡ MAX_MESSAGE }
+    ensures taken { MatchOption result (lines.new ≡ lines.old) (λ entry.
+        IsTaken wording.now.form lines.old lines.new room.new entry.0 entry.1) }
+    ensures room { length room.new ≡ MAX_MESSAGE }
+{
+    if lines.taken() > MAX_RECORDS {
+        return None;
+    }
+    let read = record_ahead(wording.form, lines.unread(), room)?;
+    lines.skip(read.line);
+    Some((read.entry, read.len))
+}
+
+// The same where the end of the line is sought first.
+#[inline(never)]
+fn take_sought<R: Read>(
     wording: &Wording,
     lines: &mut LineReader,
     room: &mut [u8],
