@@ -1,20 +1,19 @@
 -- A record that is read before the end of its line is sought: its line is the first one.
-use Rattle.std.proofs.Common.{◌≡◌, ℕ, zero, suc, ◌+◌, ◌-◌, ◌*◌, ◌%◌, ◌<◌, ◌≤◌, leb, List, [], ◌∷◌, ◌++◌, length, get_or, take, drop, Option, Some, None}
-use Rattle.std.proofs.Common.{Ok, refl, sym, ap, ap₂, subst, ◌∙◌, arith, lit<}
+use Rattle.std.proofs.Common.{◌≡◌, ℕ, zero, suc, ◌+◌, ◌-◌, ◌*◌, ◌<◌, ◌≤◌, List, [], ◌∷◌, ◌++◌, length, get_or, take, drop, Option, Some, None}
+use Rattle.std.proofs.Common.{Ok, refl, sym, ap, ap₂, subst, ◌∙◌, arith}
 use Rattle.std.specs.Prelude.{IfSome}
-use Rattle.std.specs.Io.KnownBytes.{prepend_known, Consumes, Keeps}
 use Rattle.std.proofs.KnownBytes.{Keeps-refl}
 use Rattle.std.proofs.Math.Seq.{drop-cons}
 use Rattle.std.proofs.lemmas.Bool.{le-leb}
-use Rattle.std.proofs.lemmas.List.{take-append-drop, length-take, length-append, take_at}
+use Rattle.std.proofs.lemmas.List.{take-append-drop, length-take, length-append}
 use Rattle.hex.specs.Hex.{IsBytes}
 use Rattle.capture_record.specs.declared.entry.Entry.{Entry}
 use Rattle.capture_record.specs.Entries.{limit_of, record_with}
 use Rattle.capture_record.specs.Range.{IsRecord}
-use Rattle.capture.specs.declared.limit.TheConstants.{MAX_LINE, MAX_RECORDS}
+use Rattle.capture.specs.declared.limit.TheConstants.{MAX_LINE}
 use Rattle.capture.specs.declared.hint.HintForm.{HintForm}
 use Rattle.capture.specs.Departing.{first_line, has_lf, IsWhole}
-use Rattle.capture.specs.Text.{record_text, ended}
+use Rattle.capture.specs.Text.{record_text}
 use Rattle.capture.specs.Range.{FormFits, IsInForm}
 use Rattle.capture.specs.Reading.{any_bytes_at, bytes_at, pairs_at, record_at}
 use Rattle.capture.specs.Entries.{told}

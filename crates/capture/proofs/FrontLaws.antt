@@ -1,5 +1,5 @@
 -- The front of a line, before its BYTES, in a text that goes on behind that line.
-use Rattle.std.proofs.Common.{◌≡◌, ℕ, ◌^◌, ◌<◌, ◌≤◌, true, false, ltb, List, [], ◌∷◌, ◌++◌, Option, Some, None, Result, Ok, Err, refl, sym, ap, ◌∙◌, arith, lit<}
+use Rattle.std.proofs.Common.{◌≡◌, ℕ, ◌^◌, ◌<◌, ◌≤◌, List, [], ◌∷◌, ◌++◌, Option, Some, None, Result, Ok, Err, refl, sym, ap, ◌∙◌, arith, lit<}
 use Rattle.std.specs.Option.{option_map}
 use Rattle.std.specs.Prelude.{codes}
 use Rattle.std.proofs.lemmas.Bool.{lt-ltb}
@@ -7,14 +7,12 @@ use Rattle.std.proofs.lemmas.List.{append_assoc}
 use Rattle.capture_record.specs.declared.limit.TheConstants.{MAX_HINT, MAX_LINK, MAX_MESSAGE}
 use Rattle.capture_record.specs.declared.event.Event.TheVariants as events
 use Rattle.capture_record.specs.declared.entry.Entry.TheVariants.{Sent, Received, In, Up}
-use Rattle.capture_record.specs.declared.record.Record.{Record}
 use Rattle.capture_record.specs.declared.record.Record.TheVariants.{User}
 use Rattle.capture_record.specs.declared.fate.Fate.TheVariants.{NotKept, Kept}
 use Rattle.capture.specs.declared.fault.Departure.{Departure}
 use Rattle.capture.specs.declared.hint.HintForm.{HintForm}
 use Rattle.capture.specs.declared.hint.HintForm.TheVariants.{Number, Wide}
-use Rattle.capture.specs.Reading.{◌>>=◌, after, cut_at, number_at, bytes_at, message_at, message_within, event_at, line_at, record_at}
-use Rattle.capture.specs.Entries.{told}
+use Rattle.capture.specs.Reading.{◌>>=◌, after, cut_at, number_at, bytes_at, message_at, event_at, line_at}
 use Rattle.capture.specs.Worded.{linked, messaged_within, numbered}
 use Rattle.capture.specs.inner.Ahead.{IsFront}
 use Rattle.capture.proofs.PartLaws.{after_takes, cut_takes, cut_again, map_some}

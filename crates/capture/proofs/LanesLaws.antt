@@ -1,9 +1,11 @@
 -- Digits in vectors: their values, lane by lane, and the bytes that are made of these.
 use Rattle.std.proofs.Common.{◌≡◌, ℕ, zero, suc, ◌+◌, ◌*◌, ◌/◌, ◌%◌, ◌^◌, ◌<◌, ◌≤◌, Bool, true, false, cond, eqb, leb, not, ◌&&◌, ◌||◌, List, [], ◌∷◌}
-use Rattle.std.proofs.Common.{length, replicate, take, drop, ◌++◌, map, get_or, refl, sym, ap, ap₂, ◌∙◌, subst, inl, inr, arith, bit_and, bit_or, Fits, w8}
+use Rattle.std.proofs.Common.{length, replicate, take, drop, ◌++◌, map, get_or}
+use Rattle.std.proofs.Common.{refl, sym, ap, ap₂, ◌∙◌, subst, inl, inr, arith, bit_and, bit_or, Fits, w8}
 use Rattle.std.specs.List.{list_all, prefix_len}
 use Rattle.std.proofs.lemmas.Bool.{not-true, leb-false, lt-ltb, cases_eq, agree_below, agree_below_at, cases_Bool, eqb-true, ltb-true, ne_eqb}
-use Rattle.std.proofs.lemmas.Simd.{trailing_mask_l, leading_from_mask_l, tops_compared, zip2_splat_left, mask_l-mod, map-map, zip2_of_maps, Each1-get_or, below_from_Fits, get_or_wider, length-chunk, get_or-chunk, put_chunk_is}
+use Rattle.std.proofs.lemmas.Simd.{trailing_mask_l, leading_from_mask_l, tops_compared, zip2_splat_left, mask_l-mod}
+use Rattle.std.proofs.lemmas.Simd.{map-map, zip2_of_maps, Each1-get_or, below_from_Fits, get_or_wider, length-chunk, get_or-chunk, put_chunk_is}
 use Rattle.std.proofs.lemmas.List.{length-map, get_or-map, set-get_or, take-take, length-take-le, take-append-drop, append_assoc}
 use Rattle.std.proofs.lemmas.List.Folds.{list_all_at}
 use Rattle.std.proofs.lemmas.List.Sums.{prefix_len_passes}

@@ -1,7 +1,6 @@
-use Rattle.std.proofs.Common.{ℕ, ◌≡◌, ◌+◌, ◌*◌, ◌/◌, ◌<◌, get_or, subst, sym, ◌∙◌, arith}
+use Rattle.std.proofs.Common.{◌≡◌, ◌+◌, ◌*◌, ◌/◌, ◌<◌, get_or, subst, sym, ◌∙◌, arith}
 use Rattle.std.proofs.lemmas.Simd.{length-chunk, length-put_chunk}
 use lib.Lanes.{put_chunk}
-use Rattle.capture.specs.inner.Ahead.{IsEnded}
 use Rattle.capture.specs.inner.Spelled.{IsSpelled}
 use Rattle.capture.proofs.SpelledLaws.{none_spelled}
 use Rattle.capture.proofs.LanesLaws.{front_spelled, value_at, bytes_put}
