@@ -1,11 +1,11 @@
 //! `check --all`, `alone --all` and `why --all` between the names of their files and their status.
 
-use crate::packets::{advised, advised_pair};
 use all_answer::all_end::EndCapture;
 use all_answer::all_judged::{AllFault, Captures, print_all};
 use all_answer::all_pair::{PairCaptures, Telling};
 use all_answer::all_stops::OfLine;
 use all_answer::all_told::{AllTold, Answer};
+use departure_words::{advised, advised_pair};
 use pair_judge::JudgeFault;
 use printing::answers::{print_name, print_told};
 use printing::check::{print_fault, print_out_of_memory, print_read_once};

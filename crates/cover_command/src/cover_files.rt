@@ -9,6 +9,7 @@ use crate::cover::{
 };
 use crate::cover_objects::{CoveredObjects, cover_object, print_covered_object};
 use coverage::{Hint, all_hints, all_setups, station_hints};
+use departure_words::advised_pair;
 use printing::answers::print_told;
 use printing::fault_told::FaultTold;
 use printing::files::Told;
@@ -102,11 +103,16 @@ fn add_pair<R: Files + AllocGlobal, E: Write>(
         Ok(pair) => pair,
         Err(told) => return Err(told.status),
     };
-    match layers {
+    let added = match layers {
         Layers::Both => cover_pair(rt.alloc(), &mut a, &mut b, covered, err),
         Layers::Queued | Layers::Station => {
             cover_pair_over(rt.alloc(), layers, &mut a, &mut b, covered, err)
         }
+    };
+    let (mut a, mut b) = (a.into_inner(), b.into_inner());
+    match added {
+        Ok(()) => Ok(()),
+        Err(status) => { Err(advised_pair(rt.alloc(), layers, status, paths, &mut a, &mut b, err)) }
     }
 }
 
@@ -148,5 +154,13 @@ fn add_object<R: Files + AllocGlobal, E: Write>(
     err: &mut Tally<E>,
 ) -> Result<(), FaultTold> {
     let (mut a, mut b) = opened_pair(rt, paths, Told::Path, err)?;
-    cover_object(rt.alloc(), layers, paths.a, &mut a, &mut b, covered, err)
+    let added = cover_object(rt.alloc(), layers, paths.a, &mut a, &mut b, covered, err);
+    let (mut a, mut b) = (a.into_inner(), b.into_inner());
+    match added {
+        Ok(()) => Ok(()),
+        Err(told) => {
+            let status = advised_pair(rt.alloc(), layers, told.status, paths, &mut a, &mut b, err);
+            Err(FaultTold { status, ..told })
+        }
+    }
 }

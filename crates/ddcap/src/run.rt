@@ -11,12 +11,14 @@ use capture::Format;
 use check_command::check_files::{alone_file, check_files};
 use command_words::{WORDS, advice_on, slip_of};
 use cover_command::cover_files::cover_files;
+use departure_words::advised;
 use draw_command::draw_files::draw_files;
 use pair_judge::Reason;
 use printing::check::{print, print_failed_read, print_out_of_memory};
 use printing::fault_told::FaultTold;
 use printing::files::{Named, Wanted, another_of, opened, opened_plain};
 use printing::how::Refusals;
+use printing::layers::Layers;
 use printing::text::FAULTY;
 use printing::written::{Beside, written};
 use std::alloc::{AllocError, Global};
@@ -170,7 +172,8 @@ impl<R: Files + AllocGlobal, O: Write, E: Write> Program<'_, '_, '_, R, O, E> {
 
     fn show(&mut self, path: &str) -> Result<u8, FaultTold> {
         let mut a = self.open(Wanted::by_name(Named::A, path))?;
-        Ok(show_to(self.rt.alloc(), &mut a, self.out, self.err))
+        let status = show_to(self.rt.alloc(), &mut a, self.out, self.err);
+        Ok(self.advised(status, path, &mut a.into_inner()))
     }
 
     // Writes into the second file what the first one holds, in this format.
@@ -182,14 +185,22 @@ impl<R: Files + AllocGlobal, O: Write, E: Write> Program<'_, '_, '_, R, O, E> {
         };
         let wanted = Wanted::by_name(Named::B, path_b);
         let mut dest = written(self.rt, &beside, wanted, self.err)?;
-        Ok(convert_to(
+        let mut src = Tally::new(src);
+        let status = convert_to(
             self.rt.alloc(),
             to.number(),
-            &mut Tally::new(src),
+            &mut src,
             &mut dest,
             self.out,
             self.err,
-        ))
+        );
+        Ok(self.advised(status, path_a, &mut src.into_inner()))
+    }
+
+    // After a fault, tells what makes captures of a file that is a packet capture.
+    fn advised(&mut self, status: u8, path: &str, file: &mut R::File) -> u8 {
+        let (alloc, layers) = (self.rt.alloc(), Layers::Both);
+        advised(alloc, layers, status, Named::A, path, file, self.err)
     }
 
     // Plays the script into both captures.

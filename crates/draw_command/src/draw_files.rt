@@ -11,6 +11,7 @@ use all_answer::all_judged::AllFault;
 use all_answer::all_pair::{PairCaptures, Telling};
 use all_answer::all_stops::OfLine;
 use all_answer::all_told::Refusal;
+use departure_words::advised_pair;
 use drawing::Range;
 use ladder::Marked;
 use pair_judge::Verdict;
@@ -20,6 +21,7 @@ use printing::check::{
 use printing::fault_told::FaultTold;
 use printing::files::{Named, Wanted, opened_plain};
 use printing::how::{Form, Refusals};
+use printing::pair_files::PairPaths;
 use printing::text::{FAILED, verdict_status};
 use printing::written::written_beside_pair;
 use std::alloc::{AllocError, Global};
@@ -51,7 +53,13 @@ pub fn draw_files<R: Files + AllocGlobal, O: Write, E: Write>(
 ) -> Result<u8, FaultTold> {
     let mut a = opened_plain(rt, Wanted::by_path(Named::A, asked.a), err)?;
     let mut b = opened_plain(rt, Wanted::by_path(Named::B, asked.b), err)?;
-    draw_opened(rt, asked, &mut a, &mut b, out, err)
+    let status = draw_opened(rt, asked, &mut a, &mut b, out, err)?;
+    let paths = PairPaths {
+        a: asked.a,
+        b: asked.b,
+    };
+    let layers = asked.range.layers;
+    Ok(advised_pair(rt.alloc(), layers, status, paths, &mut a, &mut b, err))
 }
 
 // Draws what both files hold.

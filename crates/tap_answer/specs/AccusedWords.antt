@@ -1,5 +1,5 @@
 -- The words for whom an answer accuses, under which conditions, and for what shows that nobody can be.
-use Rattle.std.specs.Prelude.{Bool, true, false, if◌then◌else◌, ℕ, Option, Some, None, List, [], ◌++◌, codes}
+use Rattle.std.specs.Prelude.{Bool, true, false, if◌then◌else◌, ℕ, min, Option, Some, None, List, [], ◌++◌, codes}
 use Rattle.std.specs.Fmt.{decimal}
 use Rattle.wire_base.specs.declared.side.Side.{Side}
 use Rattle.wire_base.specs.declared.side.Side.TheVariants.{A, B}
@@ -11,6 +11,7 @@ use Rattle.wire_tap.specs.declared.accusation.Broken.TheVariants.{Begins, Skippe
 use Rattle.wire_tap.specs.declared.accusation.Exception.{Exception}
 use Rattle.wire_tap.specs.declared.accusation.Exception.TheVariants.{AcknowledgementQueue, IsRouter, NamesOther, GaveUpCall, OtherSubchannel}
 use Rattle.wire_tap.specs.declared.tapped.Passed.{Passed}
+use Rattle.tap_answer.specs.declared.charged.Charged.{Charged}
 use Rattle.tap_answer.specs.SparedWords.{all_spared_words, blamed}
 
 -- what a side must not do to be at fault; where its packet names another node, nobody is accused
@@ -39,13 +40,14 @@ abbrev pub at_fault_words : Option Accusation → List ℕ
 at_fault_words None = []
 at_fault_words (Some accusation) = at_fault_words_of accusation.passed accusation.unless
 
--- so of each side that is accused, with what is likelier where both are; or that neither is
+-- so of the side that is accused; or that neither is, and where both were, that a unit may be missing before the first of the two
 abbrev pub both_at_fault_words : Option Accusation → Option Accusation → List ℕ
 both_at_fault_words None None = codes "\nno consistent explanation was found; this alone accuses neither node"
 both_at_fault_words None (Some of_b) = at_fault_words (Some of_b)
 both_at_fault_words (Some of_a) None = at_fault_words (Some of_a)
-both_at_fault_words (Some of_a) (Some of_b) = at_fault_words (Some of_a) ++ (at_fault_words (Some of_b)
-    ++ codes "\nboth sides are accused: the recording is more likely at fault than both nodes")
+both_at_fault_words (Some of_a) (Some of_b) =
+    codes "\nthe recording is more likely at fault than both nodes, and a unit may be missing before line "
+    ++ (decimal (min of_a.passed.line of_b.passed.line) ++ codes ", so neither node is accused: record again")
 
 abbrev pub only_if_words : List ℕ
 only_if_words = codes "a correct node sends this only if it discarded packets that it had composed"
@@ -93,26 +95,43 @@ abbrev pub broken_words : Bool → Broken → List ℕ
 broken_words is_after_others broken =
     seen_words broken ++ (codes ", so neither node is accused" ++ (of_words is_after_others ++ (codes ": " ++ mend_words broken)))
 
--- a unit is named
-abbrev pub names_unit : (a b : Option Accusation) → (segment_a segment_b : Option Passed) → Bool
-names_unit (Some of_a) b segment_a segment_b = true
-names_unit None (Some of_b) segment_a segment_b = true
-names_unit None None (Some of_a) segment_b = true
-names_unit None None None (Some of_b) = true
-names_unit None None None None = false
+-- a segment is named
+abbrev pub names_segment : (segment_a segment_b : Option Passed) → Bool
+names_segment (Some of_a) segment_b = true
+names_segment None (Some of_b) = true
+names_segment None None = false
 
--- the units that are named
-abbrev pub named_words : Accused → List ℕ
-named_words accused =
+-- a unit is named: that of the only side that is accused, or a segment
+abbrev pub names_side : (a b : Option Accusation) → (segment_a segment_b : Option Passed) → Bool
+names_side (Some of_a) (Some of_b) segment_a segment_b = false
+names_side (Some of_a) None segment_a segment_b = true
+names_side None (Some of_b) segment_a segment_b = true
+names_side None None segment_a segment_b = names_segment segment_a segment_b
+
+-- none is where one may be missing
+abbrev pub names_unit : (missing : Option Passed) → (a b : Option Accusation) → (segment_a segment_b : Option Passed) → Bool
+names_unit (Some passed) a b segment_a segment_b = false
+names_unit None a b segment_a segment_b = names_side a b segment_a segment_b
+
+-- the units that are named, or that one may be missing
+abbrev pub named_words_of : (missing : Option Passed) → Accused → List ℕ
+named_words_of (Some passed) accused =
+    codes "\na unit may be missing before line " ++ (decimal passed.line
+    ++ (codes ", so neither node is accused: record again" ++ all_spared_words accused))
+named_words_of None accused =
     both_at_fault_words (blamed accused.a) (blamed accused.b) ++ (all_spared_words accused
     ++ (discarded_words accused.segment_a ++ discarded_words accused.segment_b))
 
--- whom the answer accuses, and what shows that the recording is not whole: it is told alone, or after the units that had passed before it
-abbrev pub accused_words_of : Option Broken → Bool → Accused → List ℕ
-accused_words_of None names accused = named_words accused
-accused_words_of (Some broken) true accused = named_words accused ++ (codes "\n" ++ broken_words true broken)
-accused_words_of (Some broken) false accused = codes "\n" ++ broken_words false broken
+abbrev pub named_words : Charged → List ℕ
+named_words charged = named_words_of charged.missing charged.accused
 
-abbrev pub accused_words : Accused → List ℕ
-accused_words accused =
-    accused_words_of accused.broken (names_unit (blamed accused.a) (blamed accused.b) accused.segment_a accused.segment_b) accused
+-- whom the answer accuses, and what shows that the recording is not whole: it is told alone, or after the units that had passed before it
+abbrev pub accused_words_of : Option Broken → Bool → Charged → List ℕ
+accused_words_of None names charged = named_words charged
+accused_words_of (Some broken) true charged = named_words charged ++ (codes "\n" ++ broken_words true broken)
+accused_words_of (Some broken) false charged = codes "\n" ++ broken_words false broken
+
+abbrev pub accused_words : Charged → List ℕ
+accused_words charged =
+    accused_words_of charged.accused.broken (names_unit charged.missing (blamed charged.accused.a) (blamed charged.accused.b)
+    charged.accused.segment_a charged.accused.segment_b) charged

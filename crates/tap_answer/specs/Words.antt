@@ -10,10 +10,10 @@ use Rattle.pair_judge.specs.Reason.{reason_name, reason_number}
 use Rattle.placing.specs.declared.turn.Assumed.{Assumed}
 use Rattle.placing.specs.declared.turn.Assumed.TheVariants.{Keeps, Boots, GivesUp, Anew, Answers}
 use Rattle.placing.specs.declared.turn.Turn.{Turn}
-use Rattle.wire_tap.specs.declared.accusation.Accused.{Accused}
 use Rattle.wire_tap.specs.declared.tapped.Passed.{Passed}
 use Rattle.wire_tap.specs.declared.tapped.Skipped.{Skipped}
 use Rattle.wire_tap.specs.declared.tapped.Tapped.{Tapped}
+use Rattle.tap_answer.specs.declared.charged.Charged.{Charged}
 use Rattle.tap_answer.specs.AccusedWords.{accused_words}
 
 -- `a unit 7 line 16`
@@ -40,17 +40,17 @@ abbrev pub numbered_words : Reason → List ℕ
 numbered_words reason = decimal (reason_number reason) ++ (codes " " ++ reason_name reason)
 
 -- a reason, and whom the answer accuses
-abbrev pub reason_words : Reason → Accused → List ℕ
-reason_words reason accused = numbered_words reason ++ accused_words accused
+abbrev pub reason_words : Reason → Charged → List ℕ
+reason_words reason charged = numbered_words reason ++ accused_words charged
 
 -- what the answer of `why` rests on
 abbrev pub rests_words : List ℕ
 rests_words = codes "ddcap why shows the unit, but whom it accuses depends on what tap assumed"
 
 -- `unexplained a unit 7 line 16: 7 WrongNumber`
-abbrev pub unexplained_words : Passed → Reason → Accused → List ℕ
-unexplained_words passed reason accused =
-    codes "unexplained " ++ (unit_words passed ++ (codes ": " ++ (reason_words reason accused ++ (codes "\n" ++ (rests_words ++ codes "\n")))))
+abbrev pub unexplained_words : Passed → Reason → Charged → List ℕ
+unexplained_words passed reason charged =
+    codes "unexplained " ++ (unit_words passed ++ (codes ": " ++ (reason_words reason charged ++ (codes "\n" ++ (rests_words ++ codes "\n")))))
 
 -- `apart: a unit 7 line 16: 7 WrongNumber`, and that each side is explained
 abbrev pub apart_words : Passed → Reason → List ℕ
@@ -59,9 +59,9 @@ apart_words passed reason =
     ++ codes "\neach side is explained by itself; this accuses neither node\n")))
 
 -- `unexplained after the last unit: 14 WrongUserEvent`
-abbrev pub unexplained_end_words : Reason → Accused → List ℕ
-unexplained_end_words reason accused = codes "unexplained after the last unit: "
-    ++ (reason_words reason accused ++ (codes "\n" ++ (rests_words ++ codes "\n")))
+abbrev pub unexplained_end_words : Reason → Charged → List ℕ
+unexplained_end_words reason charged = codes "unexplained after the last unit: "
+    ++ (reason_words reason charged ++ (codes "\n" ++ (rests_words ++ codes "\n")))
 
 -- `a unit 7 line 16: too wide a choice`
 abbrev pub too_wide_words : Passed → List ℕ

@@ -1,10 +1,11 @@
 //! The words for whom an answer accuses, and under which conditions.
 
 ghost use Rattle.std.specs.Prelude.{◌≡◌};
-ghost use Rattle.tap_answer.specs.AccusedWords.{names_unit};
+ghost use Rattle.tap_answer.specs.AccusedWords.{names_segment, names_unit};
 ghost use Rattle.tap_answer.specs.SparedWords.{blamed};
 
 use crate::broken_text::BrokenWords;
+use crate::charged::Charged;
 use crate::spared_text::{AllSparedWords, blamed};
 use std::fmt;
 use wire_tap::{Accusation, Accused, Exception, Passed};
@@ -140,7 +141,7 @@ impl fmt::Display for DiscardedWords {
     }
 }
 
-// Which sides are at fault.
+// Which side is at fault; where both were, the recording is.
 #[derive(Clone, Copy)]
 struct BothAtFaultWords {
     a: Option<Accusation>,
@@ -163,25 +164,28 @@ impl fmt::Display for BothAtFaultWords {
             ),
             (None, Some(_)) => write!(f, "{of_b}"),
             (Some(_), None) => write!(f, "{of_a}"),
-            (Some(_), Some(_)) => write!(
-                f,
-                "{of_a}{of_b}\nboth sides are accused: the recording is more likely at fault than both nodes"
-            ),
+            (Some(of_a), Some(of_b)) => {
+                let line = of_a.passed.line.min(of_b.passed.line);
+                write!(
+                    f,
+                    "\nthe recording is more likely at fault than both nodes, and a unit may be missing before line {line}, so neither node is accused: record again"
+                )
+            }
         }
     }
 }
 
-// The units that are named: at fault, spared, or sent only by a node that discarded packets.
+// The units that are named: at fault, spared, or sent only by a node that discarded packets. Where a unit may be missing, nobody is at fault.
 #[derive(Clone, Copy)]
 struct NamedWords {
-    accused: Accused,
+    charged: Charged,
 }
 
 impl fmt::Display for NamedWords {
     ghost use Rattle.std.specs.Prelude.{Some};
     ghost use Rattle.tap_answer.specs.AccusedWords.{named_words};
 
-    ghost output = { λ words. Some (named_words words.accused) };
+    ghost output = { λ words. Some (named_words words.charged) };
 
     fn fmt<W: fmt::Write>(&self, f: &mut fmt::Formatter<W>) -> fmt::Result {
         let Accused {
@@ -190,13 +194,19 @@ impl fmt::Display for NamedWords {
             segment_a,
             segment_b,
             ..
-        } = self.accused;
+        } = self.charged.accused;
+        let spared = AllSparedWords {
+            accused: self.charged.accused,
+        };
+        if let Some(Passed { line, .. }) = self.charged.missing {
+            return write!(
+                f,
+                "\na unit may be missing before line {line}, so neither node is accused: record again{spared}"
+            );
+        }
         let both = BothAtFaultWords {
             a: blamed(a),
             b: blamed(b),
-        };
-        let spared = AllSparedWords {
-            accused: self.accused,
         };
         let of_a = DiscardedWords { passed: segment_a };
         let of_b = DiscardedWords { passed: segment_b };
@@ -207,22 +217,22 @@ impl fmt::Display for NamedWords {
 /// Whom the answer accuses, and what shows that the recording is not whole, a line each, before which is an LF.
 #[derive(Clone, Copy)]
 pub(crate) struct AccusedWords {
-    pub(crate) accused: Accused,
+    pub(crate) charged: Charged,
 }
 
 impl fmt::Display for AccusedWords {
     ghost use Rattle.std.specs.Prelude.{Some};
     ghost use Rattle.tap_answer.specs.AccusedWords.{accused_words};
 
-    ghost output = { λ words. Some (accused_words words.accused) };
+    ghost output = { λ words. Some (accused_words words.charged) };
 
     fn fmt<W: fmt::Write>(&self, f: &mut fmt::Formatter<W>) -> fmt::Result {
-        let accused = self.accused;
-        let named = NamedWords { accused };
-        let Some(broken) = accused.broken else {
+        let charged = self.charged;
+        let named = NamedWords { charged };
+        let Some(broken) = charged.accused.broken else {
             return write!(f, "{named}");
         };
-        if names_a_unit(accused) {
+        if names_a_unit(charged) {
             let seen = BrokenWords {
                 broken,
                 is_after_others: true,
@@ -238,19 +248,30 @@ impl fmt::Display for AccusedWords {
 }
 
 // Whether a unit is named.
-fn names_a_unit(accused: Accused) -> bool
-    ensures { result ≡ names_unit (blamed accused.a) (blamed accused.b) accused.segment_a accused.segment_b }
+fn names_a_unit(charged: Charged) -> bool
+    ensures { result ≡ names_unit charged.missing (blamed charged.accused.a) (blamed charged.accused.b)
+        charged.accused.segment_a charged.accused.segment_b }
 {
-    let None = blamed(accused.a) else {
+    if let Some(_) = charged.missing {
+        return false;
+    }
+    let accused = charged.accused;
+    match (blamed(accused.a), blamed(accused.b)) {
+        (Some(_), Some(_)) => false,
+        (Some(_), None) => true,
+        (None, Some(_)) => true,
+        (None, None) => names_a_segment(accused.segment_a, accused.segment_b),
+    }
+}
+
+// Whether a segment is.
+fn names_a_segment(a: Option<Passed>, b: Option<Passed>) -> bool
+    ensures { result ≡ names_segment a b }
+{
+    let None = a else {
         return true;
     };
-    let None = blamed(accused.b) else {
-        return true;
-    };
-    let None = accused.segment_a else {
-        return true;
-    };
-    let None = accused.segment_b else {
+    let None = b else {
         return true;
     };
     false

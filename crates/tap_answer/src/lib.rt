@@ -7,12 +7,14 @@
 mod accused_text;
 mod assuming;
 mod broken_text;
+mod charged;
 mod counting;
 mod spared_text;
 mod told;
 mod told_text;
 
 pub use assuming::assumed_text;
+pub use charged::Charged;
 pub use counting::units_before;
 pub use told::{Told, said_of};
 pub use told_text::{

@@ -4,11 +4,12 @@ ghost use Rattle.std.specs.Prelude.{◌≡◌, IfOk, string_bytes};
 ghost use Rattle.tap_answer.specs.Words.{apart_words, premise_words, too_wide_words, unexplained_end_words, unexplained_words};
 
 use crate::accused_text::{AccusedWords, UnitWords};
+use crate::charged::Charged;
 use pair_judge::Reason;
 use std::alloc::{AllocError, Global};
 use std::fmt;
 use wire_base::Side;
-use wire_tap::{Accused, Passed, Skipped, Tapped};
+use wire_tap::{Passed, Skipped, Tapped};
 
 // A reason with its number.
 #[derive(Clone, Copy)]
@@ -33,21 +34,21 @@ impl fmt::Display for NumberedWords {
 #[derive(Clone, Copy)]
 struct ReasonWords {
     reason: Reason,
-    accused: Accused,
+    charged: Charged,
 }
 
 impl fmt::Display for ReasonWords {
     ghost use Rattle.std.specs.Prelude.{Some};
     ghost use Rattle.tap_answer.specs.Words.{reason_words};
 
-    ghost output = { λ words. Some (reason_words words.reason words.accused) };
+    ghost output = { λ words. Some (reason_words words.reason words.charged) };
 
     fn fmt<W: fmt::Write>(&self, f: &mut fmt::Formatter<W>) -> fmt::Result {
         let numbered = NumberedWords {
             reason: self.reason,
         };
         let accused = AccusedWords {
-            accused: self.accused,
+            charged: self.charged,
         };
         write!(f, "{numbered}{accused}")
     }
@@ -130,18 +131,18 @@ impl fmt::Display for SkippedWords {
     }
 }
 
-/// `unexplained a unit 7 line 16: 7 WrongNumber`, a line for each side that is accused, or that neither is, and one on what the answer of
+/// `unexplained a unit 7 line 16: 7 WrongNumber`, a line for the side that is accused, or that neither is, and one on what the answer of
 /// `why` rests, each with its LF: the unit with which the captures end, and why they are refused. Fails for want of memory alone.
 pub fn unexplained_text(
     alloc: Global,
     passed: Passed,
     reason: Reason,
-    accused: Accused,
+    charged: Charged,
 ) -> Result<String, AllocError>
-    ensures { IfOk result (λ text. string_bytes text ≡ unexplained_words passed reason accused) }
+    ensures { IfOk result (λ text. string_bytes text ≡ unexplained_words passed reason charged) }
 {
     let unit = UnitWords { passed };
-    let why = ReasonWords { reason, accused };
+    let why = ReasonWords { reason, charged };
     let rests = RestsWords {};
     format!(in alloc; "unexplained {unit}: {why}\n{rests}\n")
 }
@@ -162,11 +163,11 @@ pub fn apart_text(alloc: Global, passed: Passed, reason: Reason) -> Result<Strin
 pub fn unexplained_end_text(
     alloc: Global,
     reason: Reason,
-    accused: Accused,
+    charged: Charged,
 ) -> Result<String, AllocError>
-    ensures { IfOk result (λ text. string_bytes text ≡ unexplained_end_words reason accused) }
+    ensures { IfOk result (λ text. string_bytes text ≡ unexplained_end_words reason charged) }
 {
-    let why = ReasonWords { reason, accused };
+    let why = ReasonWords { reason, charged };
     let rests = RestsWords {};
     format!(in alloc; "unexplained after the last unit: {why}\n{rests}\n")
 }

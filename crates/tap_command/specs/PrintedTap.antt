@@ -77,11 +77,11 @@ behind_words captured = assumed_words captured.turns.now ++ premise_words captur
 abbrev pub TellsAs : (verdict : List ℕ) → Captured → Streams → Told → ℕ → Type 0
 TellsAs verdict captured s says.Accepted status = Writes s.out.old s.out.new (verdict ++ behind_words captured) 0 status × (s.err.new ≡ s.err.old)
 TellsAs verdict captured s (says.Unexplained passed reason) status =
-    Writes s.out.old s.out.new (unexplained_words passed reason captured.accused ++ behind_words captured) 1 status × (s.err.new ≡ s.err.old)
+    Writes s.out.old s.out.new (unexplained_words passed reason captured.charged ++ behind_words captured) 1 status × (s.err.new ≡ s.err.old)
 TellsAs verdict captured s (says.Apart passed reason) status =
     Writes s.out.old s.out.new (apart_words passed reason ++ behind_words captured) 1 status × (s.err.new ≡ s.err.old)
 TellsAs verdict captured s (says.UnexplainedEnd reason) status =
-    Writes s.out.old s.out.new (unexplained_end_words reason captured.accused ++ behind_words captured) 1 status × (s.err.new ≡ s.err.old)
+    Writes s.out.old s.out.new (unexplained_end_words reason captured.charged ++ behind_words captured) 1 status × (s.err.new ≡ s.err.old)
 TellsAs verdict captured s (says.TooWide passed) status = Writes s.err.old s.err.new (too_wide_words passed) 2 status × (s.out.new ≡ s.out.old)
 
 -- the verdict refuses this record

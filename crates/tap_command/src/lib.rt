@@ -9,5 +9,6 @@ mod tap_accused;
 mod tap_apart;
 mod tap_assuming;
 pub mod tap_files;
+mod tap_missing;
 mod tap_naming;
 mod tap_object;

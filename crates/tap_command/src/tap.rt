@@ -23,11 +23,11 @@ use printing::text::{FAILED, FAULTY, FaultyLine, verdict_text};
 use std::alloc::{AllocError, Global};
 use std::io::{Read, Write};
 use tap_answer::{
-    Told, apart_text, assumed_text, premise_text, said_of, too_wide_text, unexplained_end_text,
-    unexplained_text,
+    Charged, Told, apart_text, assumed_text, premise_text, said_of, too_wide_text,
+    unexplained_end_text, unexplained_text,
 };
 use wire_base::{Side, Tally};
-use wire_tap::{Accused, Ending, TapFault, Tapped};
+use wire_tap::{Ending, TapFault, Tapped};
 
 /// The status where the captures are accepted.
 pub const ACCEPTED: u8 = 0;
@@ -46,8 +46,8 @@ pub struct Captured<'a> {
     pub is_apart: bool,
     /// What is assumed.
     pub turns: &'a [Turn],
-    /// Which units no right node sent.
-    pub accused: Accused,
+    /// Which units no right node sent, and whether one may be missing.
+    pub charged: Charged,
 }
 
 /// A refused record of captures that are to be cut there, before anything is printed.
@@ -136,7 +136,7 @@ fn print_told<O: Write, E: Write>(
     match said_of(captured.tapped.ending, verdict, captured.is_apart) {
         Told::Accepted => print_behind(alloc, text, captured, ACCEPTED, out, err),
         Told::Unexplained { passed, reason } => {
-            let text = unexplained_text(alloc, passed, reason, captured.accused);
+            let text = unexplained_text(alloc, passed, reason, captured.charged);
             print_behind(alloc, text, captured, UNEXPLAINED, out, err)
         }
         Told::Apart { passed, reason } => {
@@ -144,7 +144,7 @@ fn print_told<O: Write, E: Write>(
             print_behind(alloc, text, captured, UNEXPLAINED, out, err)
         }
         Told::UnexplainedEnd { reason } => {
-            let text = unexplained_end_text(alloc, reason, captured.accused);
+            let text = unexplained_end_text(alloc, reason, captured.charged);
             print_behind(alloc, text, captured, UNEXPLAINED, out, err)
         }
         Told::TooWide(passed) => match too_wide_text(alloc, passed) {

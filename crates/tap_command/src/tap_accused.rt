@@ -4,19 +4,31 @@ use beyond::{NodeKind, NodeWords};
 use json_text::{Elements, Members};
 use printing::objects::side_letter;
 use std::alloc::Global;
-use wire_tap::{Accusation, Accused, Broken, Exception, Passed};
+use tap_answer::Charged;
+use wire_tap::{Accusation, Broken, Exception, Passed};
 
-/// The units that no correct node sent, and those that one sent only if it discarded packets that it had composed.
-pub fn put_accused(alloc: Global, object: &mut Members, accused: Accused) {
-    let a = with_exception(accused.a);
-    let b = with_exception(accused.b);
+/// The unit that no correct node sent, if one side alone did, and those that one sent only if it discarded packets that it had composed; none where a
+/// unit may be missing.
+pub fn put_accused(alloc: Global, object: &mut Members, charged: Charged) {
+    let accused = charged.accused;
+    let (a, b) = match (
+        charged.missing,
+        with_exception(accused.a),
+        with_exception(accused.b),
+    ) {
+        (Some(_), _, _) | (_, Some(_), Some(_)) => (None, None),
+        (None, a, b) => (a, b),
+    };
     object.array("accused", &both_accused(alloc, a, b));
     let a = spared_in(accused.a);
     let b = spared_in(accused.b);
     object.array("not_accused", &both_spared(alloc, a, b));
     object.object("init", &kinds(alloc, accused.kind_a, accused.kind_b));
-    let a = with_packets_kept(accused.segment_a);
-    let b = with_packets_kept(accused.segment_b);
+    let (a, b) = match charged.missing {
+        Some(_) => (None, None),
+        None => (accused.segment_a, accused.segment_b),
+    };
+    let (a, b) = (with_packets_kept(a), with_packets_kept(b));
     object.array("accused_unless_dropped", &both_accused(alloc, a, b));
 }
 
@@ -126,11 +138,36 @@ pub fn put_passed(object: &mut Members, passed: Passed) {
 }
 
 /// What shows that the recording is not whole, or `null`.
-pub fn put_recording(alloc: Global, object: &mut Members, broken: Option<Broken>) {
-    match broken {
-        Some(broken) => object.object("recording", &broken_told(alloc, broken)),
-        None => object.null("recording"),
+pub fn put_recording(alloc: Global, object: &mut Members, charged: Charged) {
+    let accused = charged.accused;
+    if let Some(broken) = accused.broken {
+        return object.object("recording", &broken_told(alloc, broken));
     }
+    match (
+        charged.missing,
+        with_exception(accused.a),
+        with_exception(accused.b),
+    ) {
+        (Some(Passed { line, .. }), _, _) => {
+            object.object("recording", &missing_told(alloc, "unit missing", line))
+        }
+        (None, Some(a), Some(b)) => {
+            let line = a.passed.line.min(b.passed.line);
+            object.object(
+                "recording",
+                &missing_told(alloc, "both sides at fault", line),
+            )
+        }
+        (None, _, _) => object.null("recording"),
+    }
+}
+
+// Before this line a unit may be missing.
+fn missing_told(alloc: Global, what: &str, line: u64) -> Members {
+    let mut told = Members::new(alloc);
+    told.text("what", what);
+    told.number("line", line);
+    told
 }
 
 fn broken_told(alloc: Global, broken: Broken) -> Members {

@@ -7,6 +7,7 @@ use crate::packet_capture::tell_packet_capture;
 use crate::tap::{Captured, RefusedAt, print_no_unit, tap_to, tell_tap_fault};
 use crate::tap_apart::are_apart;
 use crate::tap_assuming::{assume_more, tell_too_long};
+use crate::tap_missing::charged_by;
 use crate::tap_naming::named_unit;
 use crate::tap_object::tap_json_to;
 use assuming::Assumptions;
@@ -22,8 +23,9 @@ use printing::written::{Beside, is_on_disk, opened_pair_to_write, written_pair};
 use std::alloc::Global;
 use std::io::{Read, Write};
 use std::rt::Files;
+use tap_answer::Charged;
 use wire_base::{Side, Tally};
-use wire_tap::{Accused, Asked, Tapped, find_accused, tap};
+use wire_tap::{Asked, Tapped, tap};
 
 // So often it is assumed anew: what is assumed of the packets that were kept changes the captures.
 const MOST_ROUNDS: usize = 8;
@@ -103,7 +105,7 @@ fn tap_again<R: Files + AllocGlobal, O: Write, E: Write>(
             is_cut: false,
             is_apart: false,
             turns,
-            accused: Accused::NOBODY,
+            charged: Charged::NOBODY,
         };
         match judge_captures(rt, form, paths, whole, out, err)? {
             Ok(status) => return Ok(status),
@@ -181,9 +183,9 @@ fn tell_unit<R: Files + AllocGlobal, O: Write, E: Write>(
     err: &mut Tally<E>,
 ) -> Result<u8, FaultTold> {
     let is_apart = are_apart(rt, paths, turns, unit, err)?;
-    let accused = match is_apart {
-        true => Accused::NOBODY,
-        false => units_accused(rt, paths, err)?,
+    let charged = match is_apart {
+        true => Charged::NOBODY,
+        false => charged_by(rt, paths, err)?,
     };
     let tapped = write_captures(rt, paths, Explained::Together, turns, Some(unit), err)?;
     let cut = Captured {
@@ -191,24 +193,11 @@ fn tell_unit<R: Files + AllocGlobal, O: Write, E: Write>(
         is_cut: true,
         is_apart,
         turns,
-        accused,
+        charged,
     };
     match judge_captures(rt, form, paths, cut, out, err)? {
         Ok(status) => Ok(status),
         Err(_) => unreachable!(),
-    }
-}
-
-// Which units no right node sent, as far as that is known.
-fn units_accused<R: Files + AllocGlobal, E: Write>(
-    rt: &R,
-    paths: TapPaths<'_>,
-    err: &mut Tally<E>,
-) -> Result<Accused, FaultTold> {
-    let wire = opened_plain(rt, Wanted::by_path(Named::Wire, paths.wire), err)?;
-    match find_accused(rt.alloc(), &mut Tally::new(wire), paths.line_alone) {
-        Ok(accused) => Ok(accused),
-        Err(fault) => Err(tell_tap_fault(rt.alloc(), fault, err)),
     }
 }
 

@@ -132,8 +132,8 @@ fn unexplained_object(
 ) -> Members {
     let mut object = begun(alloc, "unexplained", name);
     put_refused(&mut object, passed, reason);
-    put_accused(alloc, &mut object, captured.accused);
-    put_recording(alloc, &mut object, captured.accused.broken);
+    put_accused(alloc, &mut object, captured.charged);
+    put_recording(alloc, &mut object, captured.charged);
     put_captured(alloc, &mut object, captured);
     object
 }

@@ -1,9 +1,12 @@
 //! `align` between the names of its files and its status.
 
 use crate::align::{alignment_of, print_alignment};
+use departure_words::advised_pair;
 use printing::check::{print, print_out_of_memory};
 use printing::fault_told::{FaultKind, FaultTold};
 use printing::files::{Named, Wanted, opened};
+use printing::layers::Layers;
+use printing::pair_files::PairPaths;
 use printing::text::FAILED;
 use printing::written::written_pair_beside_pair;
 use std::alloc::Global;
@@ -30,8 +33,19 @@ pub fn align_files<R: Files + AllocGlobal, O: Write, E: Write>(
 ) -> Result<u8, FaultTold> {
     let mut a = opened(rt, Wanted::by_path(Named::A, paths.a), err)?;
     let mut b = opened(rt, Wanted::by_path(Named::B, paths.b), err)?;
-    let alignment = alignment_of(rt.alloc(), &mut a, &mut b, err)?;
-    let (a, b) = (a.into_inner(), b.into_inner());
+    let found = alignment_of(rt.alloc(), &mut a, &mut b, err);
+    let (mut a, mut b) = (a.into_inner(), b.into_inner());
+    let alignment = match found {
+        Ok(alignment) => alignment,
+        Err(told) => {
+            let both = PairPaths {
+                a: paths.a,
+                b: paths.b,
+            };
+            let layers = Layers::Both;
+            return Ok(advised_pair(rt.alloc(), layers, told.status, both, &mut a, &mut b, err));
+        }
+    };
     let wanted_a = Wanted::by_path(Named::OutA, paths.out_a);
     let wanted_b = Wanted::by_path(Named::OutB, paths.out_b);
     let (mut out_a, mut out_b) = written_pair_beside_pair(rt, &a, &b, wanted_a, wanted_b, err)?;

@@ -164,7 +164,7 @@ impl fmt::Display for FollowWords {
         match left_from {
             Some(EditPlace { side, line }) => write!(
                 f,
-                "; {left} more, from line {line} of {side} on,\n          were not tried, as the files are large"
+                "; {left} more, the nearest on line {line} of {side},\n          were not tried, as the files are large"
             ),
             None => Ok(()),
         }

@@ -1,6 +1,6 @@
-//! What `check` and `alone` say of a packet capture in the place of a capture, below its fault: the command that makes captures of it.
+//! What a command says of a packet capture in the place of a capture, below its fault: the command that makes captures of it.
 
-use departure_words::{put_word, without_ending};
+use crate::shell_words::{put_word, without_ending};
 use printing::check::print;
 use printing::files::Named;
 use printing::layers::Layers;
