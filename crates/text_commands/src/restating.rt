@@ -123,10 +123,12 @@ fn same_hint(from_part: bool, to_part: bool, hint: u64) -> Option<u64>
     ensures { result ≡ hint_said from_part to_part hint }
 {
     match (from_part, to_part) {
-        (false, false) | (true, true) => Some(hint),
+        (false, false) => Some(hint),
         (false, true) if hint < MAX_HINT => Some(hint + 1),
-        (true, false) if hint != 0 => Some(hint - 1),
-        _ => None,
+        (false, true) => None,
+        (true, false) if hint == 0 => None,
+        (true, false) => Some(hint - 1),
+        (true, true) => Some(hint),
     }
 }
 
