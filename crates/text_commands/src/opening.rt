@@ -31,10 +31,7 @@ pub struct TextOpened {
 
 /// Reads the head of a text: a reader of the records after it, and whether it is a part of a run. Its faults are those of
 /// [`open_either`](capture::open_either).
-pub fn open_text<R: Read>(
-    alloc: Global,
-    reader: &mut Tally<R>,
-) -> Result<TextOpened, CaptureFault>
+pub fn open_text<R: Read>(alloc: Global, reader: &mut Tally<R>) -> Result<TextOpened, CaptureFault>
     ensures opens { OpensText (R.remaining (tally_lent reader.old)) (R.remaining (tally_lent reader.new)) result }
     ensures cut { WhereReadFails (is_failed_read result)
         (IsCutBehind (R.remaining (tally_lent reader.old)) (R.remaining (tally_lent reader.new))) }
