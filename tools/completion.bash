@@ -37,7 +37,7 @@ _ddcap() {
   elif [ "$COMP_CWORD" = 2 ] && [ "$word" = explain ]; then
     _ddcap_propose "$(_ddcap_reasons)"
   elif [ "$COMP_CWORD" = 2 ] && [ "$word" = convert ]; then
-    _ddcap_propose '1 2 3'
+    _ddcap_propose '1 2 3 4'
   elif [ "$before" = --rows ] || [ "$before" = --from ]; then
     _ddcap_propose ''
   elif [[ $now == -* && " ${COMP_WORDS[*]:2:COMP_CWORD-2} " != *' -- '* ]]; then

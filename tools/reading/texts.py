@@ -18,6 +18,7 @@ NEAR_FORMS = {
     'd': '{number} {bytes}', 'x': '{bytes}', 'boot': '', 'abort': '{number}', 'interrupt': '{number} {bytes}', 'interrupted': '{number} {bytes}',
 }
 RECEIPTS = 'r', 'k', 'd'
+WHOLE, PART = (1, 2, 3), (4,)  # the formats of a whole capture, and of a part of a run
 
 # the most bytes of each
 MOST_BYTES = {**dict.fromkeys(['s', 'n', 'r', 'k', 'd'], 16_393), 'x': 16_383, 'in': 65_535, 'up': 65_535, 'interrupt': 16, 'interrupted': 16}
@@ -72,12 +73,12 @@ def hint_of(word, mark):
 
 
 class Text:
-    """A capture, or with `of_part` a part of a run: its format, its lines up to the first that departs, each with the hint that it has, and what is
-    said of that one, or ''."""
+    """A capture, or a part of a run, in one of these formats: its format, its lines up to the first that departs, each with the hint that it has,
+    and what is said of that one, or ''."""
 
-    def __init__(self, text, letter, of_part=False):
+    def __init__(self, text, letter, forms=WHOLE):
         self.form, self.lines, self.hints, self.said, mark = None, [], [], '', None
-        self.forms = (4,) if of_part else (1, 2, 3)
+        self.forms = forms
         *whole, rest = text.split('\n')
         for number, line in enumerate(whole + [rest] * (rest != '' or not whole), 1):
             fault = self.fault_at(line, number <= len(whole), mark)
@@ -105,9 +106,9 @@ class Text:
         return fault_of(line, self.form, mark)
 
 
-def text_of(path, letter):
+def text_of(path, letter, forms=WHOLE):
     with open(path, newline='', encoding='latin-1') as file:
-        return Text(file.read(), letter)
+        return Text(file.read(), letter, forms)
 
 
 def read(path, letter):
@@ -155,14 +156,19 @@ def shown_unit(digits):
     return ('%s flags %02x ' % (unit.kind.lower(), unit.flags) + words.format(unit, len(unit.packet or b''))).rstrip()
 
 
+def shown_line(line, hint):
+    """What `show` prints of a record behind its number."""
+    verb, *words = line.split(' ')
+    if verb in 'ux':
+        return '%s %s' % (SHOWN[verb], ' '.join(words))
+    number = [] if hint is None else ['-' if hint == BEFORE else str(hint)]
+    return ' '.join([SHOWN[verb], *number, shown_unit(words[-1])]) + ', sent before the other capture begins' * (hint == BEFORE)
+
+
 def shown(path):
     """What `show` prints to both streams."""
-    text = text_of(path, 'a')
-    rows = []
-    for place, (line, hint) in enumerate(zip(text.lines[1:], text.hints[1:])):
-        verb, *words = line.split(' ')
-        said = [str(hint)] * (hint is not None) + ([' '.join(words)] if verb in 'ux' else [shown_unit(words[-1])])
-        rows.append(' '.join([str(place), SHOWN[verb], *said]) + '\n')
+    text = text_of(path, 'a', WHOLE + PART)
+    rows = ['%d %s\n' % (place, shown_line(*told)) for place, told in enumerate(zip(text.lines[1:], text.hints[1:]))]
     return ''.join(rows), text.said + '\n' if text.said else ''
 
 
@@ -171,18 +177,22 @@ def shown(path):
 def line_in(form, line, hint, mark):
     """The line of a record in this format, or None where it has none."""
     name, words = name_of(line)
-    if name in NEAR_FORMS and form != 3:
+    if name in NEAR_FORMS and form in (1, 2):
         return None
     if hint is None:
         return line
-    return ' '.join([line.split(' ')[0], str(hint if form != 2 else hint - mark), words[1]])
+    if form == 4:
+        number = None if hint == MOST_HINT else '-' if hint == BEFORE else hint
+    else:
+        number = None if hint == BEFORE else hint - mark if form == 2 else hint
+    return None if number is None else '%s %s %s' % (line.split(' ')[0], number, words[1])
 
 
 def converted(form, path, made):
     """What `convert` prints to both streams; it writes the capture."""
-    text, mark, written, said = text_of(path, 'a'), 0, [], ''
+    text, mark, written, said = text_of(path, 'a', WHOLE + PART), 0, [], ''
     for number, (line, hint) in enumerate(zip(text.lines, text.hints), 1):
-        other = line_in(form, line, hint, mark) if number > 1 else 'ddcap %d %s' % (form, line.split(' ', 2)[2])
+        other = line_in(form, line, hint, mark) if number > 1 else ' '.join(['ddcap %d' % form, *line.split(' ')[2:4]] + ['part'] * (form == 4))
         if other is None:
             said = 'a: line %d: not in format %d' % (number, form)
             break

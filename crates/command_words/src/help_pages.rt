@@ -11,7 +11,7 @@ pub const PROGRAM: &str = "\
   ddcap draw A B          draw the traffic between both ends
   ddcap show A            print what a capture says, one line per record
   ddcap play SCRIPT A B   write both captures of a script
-  ddcap convert N IN OUT  write a capture in format N: 1, 2 or 3
+  ddcap convert N IN OUT  write a capture in format N: 1 to 4
   ddcap align A B OUT_A OUT_B  find the hints of both captures by their bytes
   ddcap tap WIRE A B      make both captures from the bytes on a line
   ddcap help [WORD]       print this page, or the page of one command
@@ -49,7 +49,8 @@ It ends with status 0 and prints:
   4 sent ack flags 00 resp 0
 
 The number after received, kept or dropped is the hint: which unit of the
-other end this was, counted from 0.
+other end this was, counted from 0. In a part of a run it may be -, and the
+line ends in: sent before the other capture begins
 
 Status:
   0  all records were printed
@@ -88,11 +89,14 @@ Status:
 pub const CONVERT: &str = "\
 ddcap convert N IN OUT
 
-Writes the capture in the file IN into the file OUT, in format N: 1, 2 or 3. A
+Writes the capture in the file IN into the file OUT, in format N: 1 to 4. A
 hint in format 1 or 3 is the number of a unit, in format 2 its distance from
-the next one. Format 3 alone has the lines u boot, u abort, u interrupt,
-u interrupted, d and x. IN may be in any format. The file OUT is created, or
-emptied first; if it is the same file as IN, nothing changes.
+the next one. Formats 3 and 4 alone have the lines u boot, u abort,
+u interrupt, u interrupted, d and x. Format 4 is that of a part of a run:
+convert a whole capture to it if its beginning or its end is missing. Back
+to a whole one only what has no hint - can be converted. IN may be in any
+format. The file OUT is created, or emptied first; if it is the same file as
+IN, nothing changes.
 
 Example, in the top folder of the sources:
 

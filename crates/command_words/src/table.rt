@@ -105,8 +105,8 @@ pub static WORDS: [Word; 12] = [
         name: "convert",
         parts: &[Needed("N"), Needed("IN"), Needed("OUT")],
         needs: "the number of a format, a capture, and a capture to write",
-        values: "a format is 1, 2 or 3",
-        usage: "usage: ddcap convert N IN OUT, with N 1, 2 or 3\n",
+        values: "a format is 1, 2, 3 or 4",
+        usage: "usage: ddcap convert N IN OUT, with N from 1 to 4\n",
         page: Page::Convert,
     },
     Word {

@@ -7,7 +7,6 @@ ghost use Rattle.printing.specs.Statuses.{EndsWith};
 use crate::explain::explain_to;
 use crate::help::help_to;
 use crate::words::{Task, WordsFault, task_of};
-use capture::Format;
 use check_command::check_files::{alone_file, check_files};
 use command_words::{WORDS, advice_on, slip_of};
 use cover_command::cover_files::cover_files;
@@ -30,6 +29,7 @@ use text_commands::align_files::align_files;
 use text_commands::convert::convert_to;
 use text_commands::play_files::{PlayPaths, play_files};
 use text_commands::show::show_to;
+use text_commands::target::Target;
 use why::explanation_of;
 use why_answer::end_telling::{EndAgain, EndPrintout, why_end_to};
 use why_answer::telling::{Printout, REFUSED};
@@ -176,8 +176,8 @@ impl<R: Files + AllocGlobal, O: Write, E: Write> Program<'_, '_, '_, R, O, E> {
         Ok(self.advised(status, path, &mut a.into_inner()))
     }
 
-    // Writes into the second file what the first one holds, in this format.
-    fn convert(&mut self, to: Format, path_a: &str, path_b: &str) -> Result<u8, FaultTold> {
+    // Writes into the second file what the first one holds, in this form.
+    fn convert(&mut self, to: Target, path_a: &str, path_b: &str) -> Result<u8, FaultTold> {
         let src = opened_plain(self.rt, Wanted::by_name(Named::A, path_a), self.err)?;
         let beside = Beside {
             named: Named::A,
@@ -188,7 +188,7 @@ impl<R: Files + AllocGlobal, O: Write, E: Write> Program<'_, '_, '_, R, O, E> {
         let mut src = Tally::new(src);
         let status = convert_to(
             self.rt.alloc(),
-            to.number(),
+            to,
             &mut src,
             &mut dest,
             self.out,

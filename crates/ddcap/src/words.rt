@@ -16,6 +16,7 @@ use std::alloc::Global;
 use std::convert::AsStr;
 use tap_command::tap_files::TapPaths;
 use text_commands::align_files::AlignPaths;
+use text_commands::target::Target;
 use why_answer::end_telling::EndPrintout;
 use why_answer::telling::Printout;
 
@@ -67,9 +68,9 @@ pub enum Task<'a> {
     },
     /// To find the hints of both captures by the bytes, and to write these with them into files.
     Align(AlignPaths<'a>),
-    /// To write the capture in the file `a` in this format, into the file `b`.
+    /// To write the capture in the file `a` in this form, into the file `b`.
     Convert {
-        to: Format,
+        to: Target,
         a: &'a str,
         b: &'a str,
     },
@@ -167,24 +168,14 @@ fn conversion_of<'a>(found: &ArgMatches<'a>) -> Result<Task<'a>, WordsFault> {
     ) else {
         return Err(WordsFault::BadWords);
     };
-    match number {
-        "1" => Ok(Task::Convert {
-            to: Format::One,
-            a,
-            b,
-        }),
-        "2" => Ok(Task::Convert {
-            to: Format::Two,
-            a,
-            b,
-        }),
-        "3" => Ok(Task::Convert {
-            to: Format::Three,
-            a,
-            b,
-        }),
-        _ => Err(WordsFault::BadWords),
-    }
+    let to = match number {
+        "1" => Target::Whole(Format::One),
+        "2" => Target::Whole(Format::Two),
+        "3" => Target::Whole(Format::Three),
+        "4" => Target::Part,
+        _ => return Err(WordsFault::BadWords),
+    };
+    Ok(Task::Convert { to, a, b })
 }
 
 // The script and the captures that the words after `play` name.

@@ -1,5 +1,5 @@
 -- The lines of a capture's records, as they grow from one record to the next.
-use Rattle.std.proofs.Common.{◌≡◌, ℕ, ◌+◌, ◌<◌, inl, inr, List, [], ◌∷◌, ◌++◌, length, take, Option, Some, Ok, refl, sym, ap, subst, ◌∙◌, arith}
+use Rattle.std.proofs.Common.{◌≡◌, ℕ, ◌+◌, ◌<◌, Bool, true, false, inl, inr, List, [], ◌∷◌, ◌++◌, length, take, Option, Some, Ok, refl, sym, ap, subst, ◌∙◌, arith}
 use Rattle.std.proofs.Common.{length-append, append-nil, append_assoc}
 use Rattle.std.specs.Option.{IfSome}
 use Rattle.std.specs.Io.KnownBytes.{Appends, Consumes, IsAtEnd}
@@ -14,30 +14,33 @@ use Rattle.capture_record.specs.declared.record.Record.{Record}
 use Rattle.capture.specs.declared.hint.HintForm.{HintForm}
 use Rattle.capture.specs.Text.{form_after, record_line}
 use Rattle.capture_record.specs.Range.{IsRecord}
-use Rattle.capture.specs.Range.{IsInForm}
-use Rattle.capture.specs.Departing.{HeadDeparts, RecordDeparts}
+use Rattle.capture.specs.Range.{IsCapture, IsInForm}
+use Rattle.capture.specs.Departing.{RecordDeparts}
 use Rattle.capture.specs.Faulty.{is_read_fault}
 use Rattle.capture.specs.Lines.{IsCutBehind, to_come}
+use Rattle.capture.specs.Opening.{EitherHeadDeparts}
 use Rattle.capture.specs.Paged.{HandsOver}
-use Rattle.capture.specs.Reader.{CaptureState, FaultShows, Opens, NextGives, WhereReadFails}
-use Rattle.capture.specs.SoFar.{ToCome, TheEnd, so_far, IsReadSoFar}
+use Rattle.capture.specs.Reader.{CaptureState, FaultShows, NextGives, WhereReadFails}
+use Rattle.capture.specs.SoFar.{ReadSoFar, ToCome, TheEnd, so_far}
+use Rattle.text_commands.specs.declared.opening.TextOpened.{TextOpened}
 use Rattle.text_commands.specs.declared.show.Ending.TheVariants.{Faulty}
+use Rattle.text_commands.specs.Opening.{IsSoFar, OpensText}
 use Rattle.printing.specs.Printed.{Moved, Stream}
 use Rattle.text_commands.specs.Shown.{shown_line, shown_lines}
-use Rattle.text_commands.specs.Showing.{HasBegun, HasRead, HasReadAll, IsReadTo, ListsWholeLines, WritesAll, WritesSome}
+use Rattle.text_commands.specs.Showing.{HasBegun, HasRead, HasReadAll, IsReadTo, Listed, ListsWholeLines, WritesAll, WritesSome}
 
 -- ---- lists of records
 
-shown_lines-push : (number : ℕ) (rs : List Record) (r : Record) → shown_lines number (rs ++ r ∷ []) ≡ shown_lines number rs ++
-    shown_line (number + length rs) r
-shown_lines-push number [] r =
+shown_lines-push : (is_part : Bool) (number : ℕ) (rs : List Record) (r : Record) → shown_lines is_part number (rs ++ r ∷ []) ≡
+    shown_lines is_part number rs ++ shown_line is_part (number + length rs) r
+shown_lines-push is_part number [] r =
     let same : number ≡ number + 0 = omega arith in
-    append-nil (shown_line number r) ∙ ap (λ n. shown_line n r) same
-shown_lines-push number (s ∷ rs) r =
+    append-nil (shown_line is_part number r) ∙ ap (λ n. shown_line is_part n r) same
+shown_lines-push is_part number (s ∷ rs) r =
     let same : (number + 1) + length rs ≡ number + length (s ∷ rs) = omega arith in
-    ap (λ text. shown_line number s ++ text) (shown_lines-push (number + 1) rs r)
-    ∙ sym (append_assoc (shown_line number s) (shown_lines (number + 1) rs) (shown_line ((number + 1) + length rs) r))
-    ∙ ap (λ n. shown_lines number (s ∷ rs) ++ shown_line n r) same
+    ap (λ text. shown_line is_part number s ++ text) (shown_lines-push is_part (number + 1) rs r)
+    ∙ sym (append_assoc (shown_line is_part number s) (shown_lines is_part (number + 1) rs) (shown_line is_part ((number + 1) + length rs) r))
+    ∙ ap (λ n. shown_lines is_part number (s ∷ rs) ++ shown_line is_part n r) same
 
 -- ---- what was written
 
@@ -62,59 +65,65 @@ some_on a b c xs ys first second =
 
 -- the laws of a text that is read on
 pub record GrowingLaws : Type 0 where
-  pub opened : (text left : Option (List ℕ)) (state : CaptureState) → Opens text left (Ok state) →
-      IsReadSoFar text (so_far state.form state.own state.peer [] (ToCome (to_come state.unread left)))
-  pub one_more : (text before after : Option (List ℕ)) (form : HintForm) (own peer : ℕ) (rs : List Record) (r : Record) →
-      IsReadSoFar text (so_far form own peer rs (ToCome before)) → length rs < MAX_RECORDS → IsRecord r → Consumes before after (record_line form r)
-      → IsInForm form r → IsReadSoFar text (so_far (form_after form r) own peer (rs ++ r ∷ []) (ToCome after))
-  pub ended : (text before : Option (List ℕ)) (form : HintForm) (own peer : ℕ) (rs : List Record) →
-      IsReadSoFar text (so_far form own peer rs (ToCome before)) → IsAtEnd before → IsReadSoFar text (so_far form own peer rs TheEnd)
+  pub one_more : (is_part : Bool) (text before after : Option (List ℕ)) (form : HintForm) (own peer : ℕ) (rs : List Record) (r : Record) →
+      IsSoFar is_part text (so_far form own peer rs (ToCome before)) → length rs < MAX_RECORDS → IsRecord r →
+      Consumes before after (record_line form r)
+      → IsInForm form r → IsSoFar is_part text (so_far (form_after form r) own peer (rs ++ r ∷ []) (ToCome after))
+  pub ended : (is_part : Bool) (text before : Option (List ℕ)) (form : HintForm) (own peer : ℕ) (rs : List Record) →
+      IsSoFar is_part text (so_far form own peer rs (ToCome before)) → IsAtEnd before → IsSoFar is_part text (so_far form own peer rs TheEnd)
+
+-- what was read of either text are records that a text may hold
+pub fits : (is_part : Bool) (text : Option (List ℕ)) (read : ReadSoFar) → IsSoFar is_part text read → IsCapture read.own read.peer read.records
+fits false text read h = h.fits
+fits true text read h = h.fits
 
 -- a reader in this state has read so many records of the text; a part of their lines was written, and the rest waits on the page
-pub record HasListed (text come : Option (List ℕ)) (capture : CaptureState) (number : ℕ) (out : Moved) (page : List ℕ) : Type 0 where
+pub record HasListed (text come : Option (List ℕ)) (is_part : Bool) (capture : CaptureState) (number : ℕ) (out : Moved) (page : List ℕ)
+    : Type 0 where
   pub records : List Record
-  pub read : IsReadSoFar text (so_far capture.form capture.own capture.peer records (ToCome come))
+  pub read : IsSoFar is_part text (so_far capture.form capture.own capture.peer records (ToCome come))
   pub count : length records ≡ number
   pub counted : capture.records ≡ number
   pub reading : capture.phase ≡ Reading
   pub written : List ℕ
-  pub lines : shown_lines 0 records ≡ written ++ page
+  pub lines : shown_lines is_part 0 records ≡ written ++ page
   pub on_out : WritesAll out.old out.new written
 
-pub opened : (laws : GrowingLaws) (text after : Option (List ℕ)) (capture : CaptureState) (out : Stream) (page : List ℕ) →
-    Opens text after (Ok capture) → page ≡ [] → HasListed text (to_come capture.unread after) capture 0 (record { old = out; new = out }) page
-opened laws text after capture out page opens empty = record {
+pub opened : (text after : Option (List ℕ)) (o : TextOpened) (out : Stream) (page : List ℕ) → OpensText text after (Ok o) → page ≡ [] →
+    HasListed text (to_come o.capture.unread after) o.is_part o.capture 0 (record { old = out; new = out }) page
+opened text after o out page opens empty = record {
   records = [];
-  read = laws.opened text after capture opens;
+  read = opens.2;
   count = refl;
-  counted = opens.2;
-  reading = opens.3;
+  counted = opens.0;
+  reading = opens.1;
   written = [];
   lines = sym empty;
   on_out = (Appends-nil out.bytes, refl);
 }
 
-pub listed_on : (laws : GrowingLaws) (text before after : Option (List ℕ)) (old new : CaptureState) (number : ℕ) (out_old out out' : Stream)
-    (page kept page' : List ℕ) (r : Record) → HasListed text before old number (record { old = out_old; new = out }) page → new.own ≡ old.own →
+pub listed_on : (laws : GrowingLaws) (text before after : Option (List ℕ)) (is_part : Bool) (old new : CaptureState) (number : ℕ)
+    (out_old out out' : Stream) (page kept page' : List ℕ) (r : Record) →
+    HasListed text before is_part old number (record { old = out_old; new = out }) page → new.own ≡ old.own →
     new.peer ≡ old.peer → NextGives old new before after (Ok (Some r)) → HandsOver page kept out.bytes out'.bytes → out'.faults ≡ out.faults →
-    page' ≡ kept ++ shown_line number r → HasListed text after new (number + 1) (record { old = out_old; new = out' }) page'
-listed_on laws text before after old new number out_old out out' page kept page' r h own peer gives over faults put =
+    page' ≡ kept ++ shown_line is_part number r → HasListed text after is_part new (number + 1) (record { old = out_old; new = out' }) page'
+listed_on laws text before after is_part old new number out_old out out' page kept page' r h own peer gives over faults put =
     let count = h.count in
     let counted = h.counted in
     let few = gives.1 in
     let same : 0 + length h.records ≡ number = omega arith in
-    let line = shown_line number r in
+    let line = shown_line is_part number r in
     record {
       records = h.records ++ r ∷ [];
       read = rw (own, peer, gives.5)
-          (laws.one_more text before after old.form old.own old.peer h.records r h.read (omega arith) gives.0 gives.4 gives.6);
+          (laws.one_more is_part text before after old.form old.own old.peer h.records r h.read (omega arith) gives.0 gives.4 gives.6);
       count = omega (arith, length-append h.records (r ∷ []));
       counted = gives.2 ∙ ap (λ n. n + 1) counted;
       reading = gives.3;
       written = h.written ++ over.written;
       lines =
-          shown_lines-push 0 h.records r
-          ∙ ap (λ n. shown_lines 0 h.records ++ shown_line n r) same
+          shown_lines-push is_part 0 h.records r
+          ∙ ap (λ n. shown_lines is_part 0 h.records ++ shown_line is_part n r) same
           ∙ ap (λ text. text ++ line) (h.lines ∙ ap (λ text. h.written ++ text) over.parts ∙ sym (append_assoc h.written over.written kept))
           ∙ append_assoc (h.written ++ over.written) kept line
           ∙ ap (λ text. (h.written ++ over.written) ++ text) (sym put);
@@ -123,33 +132,37 @@ listed_on laws text before after old new number out_old out out' page kept page'
 
 -- ---- the three endings
 
-module _ (text before : Option (List ℕ)) (capture : CaptureState) (number : ℕ) (out : Moved) (page : List ℕ)
-    (h : HasListed text before capture number out page) where
+module _ (text before : Option (List ℕ)) (is_part : Bool) (capture : CaptureState) (number : ℕ) (out : Moved) (page : List ℕ)
+    (h : HasListed text before is_part capture number out page) where
+  -- they, and what they are of
+  abbrev pub by_then : Listed
+  by_then = record { is_part = is_part; records = h.records }
+
   -- what was read by then
-  abbrev has_read : HasRead text h.records
+  abbrev has_read : HasRead text by_then
   has_read = record { form = capture.form; own = capture.own; peer = capture.peer; come = before; read = h.read }
 
   pub all_lines : (out' : Stream) (rest : List ℕ) → HandsOver page rest out.new.bytes out'.bytes → rest ≡ [] → out'.faults ≡ out.new.faults →
-      WritesAll out.old out' (shown_lines 0 h.records)
+      WritesAll out.old out' (shown_lines is_part 0 h.records)
   all_lines out' rest over none faults =
       let parts : page ≡ over.written = over.parts ∙ ap (λ text. over.written ++ text) none ∙ append-nil over.written in
       subst (WritesAll out.old out') (sym (h.lines ∙ ap (λ text. h.written ++ text) parts))
       (all_on out.old out.new out' h.written over.written h.on_out (over.taken, faults))
 
-  pub some_lines : (out' : Stream) → WritesSome out.new out' page → WritesSome out.old out' (shown_lines 0 h.records)
+  pub some_lines : (out' : Stream) → WritesSome out.new out' page → WritesSome out.old out' (shown_lines is_part 0 h.records)
   some_lines out' some = subst (WritesSome out.old out') (sym h.lines) (some_on out.old out.new out' h.written page h.on_out some)
 
-  pub read_all : (laws : GrowingLaws) → IsAtEnd before → HasReadAll text h.records
+  pub read_all : (laws : GrowingLaws) → IsAtEnd before → HasReadAll text by_then
   read_all laws end = record {
     form = capture.form;
     own = capture.own;
     peer = capture.peer;
     read =
-        laws.ended text before capture.form capture.own capture.peer h.records h.read end;
+        laws.ended is_part text before capture.form capture.own capture.peer h.records h.read end;
   }
 
   pub read_to_fault : (fault : CaptureFault) → FaultShows (RecordDeparts capture.form capture.records) (capture.records + 2) before fault →
-      IsReadTo (Faulty fault) text h.records
+      IsReadTo (Faulty fault) text by_then
   read_to_fault (Departs kind line) shows =
       let same = h.counted ∙ sym h.count in
       inr (
@@ -165,23 +178,28 @@ module _ (text before : Option (List ℕ)) (capture : CaptureState) (number : �
 
   -- where that is a failed read, each whole line was read
   pub whole_to_fault : (fault : CaptureFault) (left : Option (List ℕ)) → WhereReadFails (is_read_fault fault) (IsCutBehind before left) →
-      ListsWholeLines (Faulty fault) text left h.records
+      ListsWholeLines (Faulty fault) text left by_then
   whole_to_fault (Departs kind line) left cut = tt
   whole_to_fault Read left cut = inr (has_read, cut)
   whole_to_fault OutOfMemory left cut = tt
   whole_to_fault Failed left cut = tt
 
-  pub read_by_then : HasBegun text h.records
+  pub read_by_then : HasBegun text by_then
   read_by_then = inr has_read
 
-pub head_fault : (text : Option (List ℕ)) (fault : CaptureFault) → FaultShows HeadDeparts 1 text fault → IsReadTo (Faulty fault) text []
+-- nothing was read
+abbrev pub none_listed : Listed
+none_listed = record { is_part = false; records = [] }
+
+pub head_fault : (text : Option (List ℕ)) (fault : CaptureFault) → FaultShows EitherHeadDeparts 1 text fault →
+    IsReadTo (Faulty fault) text none_listed
 head_fault text (Departs kind line) shows = inl (refl, record { departs = shows.1; line_is = shows.0 })
 head_fault text Read shows = inl refl
 head_fault text OutOfMemory shows = inl refl
 head_fault text Failed shows = absurd shows
 
 pub whole_at_head : (text left : Option (List ℕ)) (fault : CaptureFault) → WhereReadFails (is_read_fault fault) (IsCutBehind text left) →
-    ListsWholeLines (Faulty fault) text left []
+    ListsWholeLines (Faulty fault) text left none_listed
 whole_at_head text left (Departs kind line) cut = tt
 whole_at_head text left Read cut = inl (refl, cut)
 whole_at_head text left OutOfMemory cut = tt

@@ -8,54 +8,61 @@ use Rattle.capture.specs.declared.hint.HintForm.{HintForm}
 use Rattle.capture_record.specs.declared.record.Record.{Record}
 use Rattle.capture.specs.Faulty.{CountsReads, is_read_fault}
 use Rattle.capture.specs.Lines.{IsCutBehind}
-use Rattle.capture.specs.SoFar.{ToCome, TheEnd, so_far, IsReadSoFar, DepartsBehind, HeadDepartsAt}
+use Rattle.capture.specs.SoFar.{ToCome, TheEnd, so_far, DepartsBehind}
 use Rattle.text_commands.specs.declared.show.Ending.{Ending}
 use Rattle.text_commands.specs.declared.show.Ending.TheVariants.{Whole, Faulty, Cut}
 use Rattle.printing.specs.Printed.{Moved, Stream, Writes}
 use Rattle.printing.specs.PrintedAlone.{shown_fault, shown_fault_status}
+use Rattle.text_commands.specs.Opening.{IsSoFar, NoHeadAt}
 use Rattle.text_commands.specs.Shown.{shown_lines}
 
 -- ---- what was read
 
+-- records, and whether they are of a part of a run
+pub record Listed : Type 0 where
+  pub is_part : Bool
+  pub records : List Record
+
 -- a head and these records were read of the text
-pub record HasRead (text : Option (List ℕ)) (records : List Record) : Type 0 where
+pub record HasRead (text : Option (List ℕ)) (listed : Listed) : Type 0 where
   pub form : HintForm
   pub own : ℕ
   pub peer : ℕ
   pub come : Option (List ℕ)
-  pub read : IsReadSoFar text (so_far form own peer records (ToCome come))
+  pub read : IsSoFar listed.is_part text (so_far form own peer listed.records (ToCome come))
 
 -- they are all of the text's
-pub record HasReadAll (text : Option (List ℕ)) (records : List Record) : Type 0 where
+pub record HasReadAll (text : Option (List ℕ)) (listed : Listed) : Type 0 where
   pub form : HintForm
   pub own : ℕ
   pub peer : ℕ
-  pub read : IsReadSoFar text (so_far form own peer records TheEnd)
+  pub read : IsSoFar listed.is_part text (so_far form own peer listed.records TheEnd)
 
 -- the head's line departs, before any record; or the line after these records
-abbrev pub IsFaultyBehind : Option (List ℕ) → List Record → Departure → ℕ → Type 0
-IsFaultyBehind text records kind line =
-    ((records ≡ []) × HeadDepartsAt text kind line)
-    ⊎ ((h : HasRead text records) × DepartsBehind (so_far h.form h.own h.peer records (ToCome h.come)) kind line)
+abbrev pub IsFaultyBehind : Option (List ℕ) → Listed → Departure → ℕ → Type 0
+IsFaultyBehind text listed kind line =
+    ((listed.records ≡ []) × NoHeadAt text kind line)
+    ⊎ ((h : HasRead text listed) × DepartsBehind (so_far h.form h.own h.peer listed.records (ToCome h.come)) kind line)
 
 -- nothing was read, or a head and these records
-abbrev pub HasBegun : Option (List ℕ) → List Record → Type 0
-HasBegun text records = (records ≡ []) ⊎ HasRead text records
+abbrev pub HasBegun : Option (List ℕ) → Listed → Type 0
+HasBegun text listed = (listed.records ≡ []) ⊎ HasRead text listed
 
 -- where the reader tells its bytes: the records are all of the text's, or those before its fault, or its first
-abbrev pub IsReadTo : Ending → Option (List ℕ) → List Record → Type 0
-IsReadTo Whole text records = HasReadAll text records
-IsReadTo (Faulty (Departs kind line)) text records = IsFaultyBehind text records kind line
-IsReadTo (Faulty Read) text records = HasBegun text records
-IsReadTo (Faulty OutOfMemory) text records = HasBegun text records
-IsReadTo (Faulty Failed) text records = ⊥
-IsReadTo (Cut met) text records = HasBegun text records
+abbrev pub IsReadTo : Ending → Option (List ℕ) → Listed → Type 0
+IsReadTo Whole text listed = HasReadAll text listed
+IsReadTo (Faulty (Departs kind line)) text listed = IsFaultyBehind text listed kind line
+IsReadTo (Faulty Read) text listed = HasBegun text listed
+IsReadTo (Faulty OutOfMemory) text listed = HasBegun text listed
+IsReadTo (Faulty Failed) text listed = ⊥
+IsReadTo (Cut met) text listed = HasBegun text listed
 
 -- Where a read failed: each whole line that the reader had given until then was read. After these lines, or where no head was read, it had given a
 -- piece of a line. `left` is what it has left.
-abbrev pub ListsWholeLines : Ending → (text left : Option (List ℕ)) → List Record → Type 0
-ListsWholeLines (Faulty Read) text left records = ((records ≡ []) × IsCutBehind text left) ⊎ ((h : HasRead text records) × IsCutBehind h.come left)
-ListsWholeLines ending text left records = Unit {0}
+abbrev pub ListsWholeLines : Ending → (text left : Option (List ℕ)) → Listed → Type 0
+ListsWholeLines (Faulty Read) text left listed =
+    ((listed.records ≡ []) × IsCutBehind text left) ⊎ ((h : HasRead text listed) × IsCutBehind h.come left)
+ListsWholeLines ending text left listed = Unit {0}
 
 -- a read had failed by then
 abbrev pub has_failed_to_read : Ending → Bool
@@ -89,11 +96,11 @@ Ends (Cut met) err_old err_new status = (err_new ≡ err_old) × (status ≡ 3)
 -- The lines of one call of `show`: of the records that were read, they are on standard output. A call of the reader failed
 -- just where the ending has a failed read.
 pub record Lists (a out : Moved) (ending : Ending) : Type 0 where
-  pub records : List Record
-  pub read : IsReadTo ending a.old.bytes records
-  pub whole : ListsWholeLines ending a.old.bytes a.new.bytes records
+  pub listed : Listed
+  pub read : IsReadTo ending a.old.bytes listed
+  pub whole : ListsWholeLines ending a.old.bytes a.new.bytes listed
   pub reads : CountsReads (has_failed_to_read ending) a.old.faults a.new.faults
-  pub lines : Lines ending out.old out.new (shown_lines 0 records)
+  pub lines : Lines ending out.old out.new (shown_lines listed.is_part 0 listed.records)
 
 -- One call of `show`: the lines, and after them a fault.
 pub record Shows (a out err : Moved) (status : ℕ) : Type 0 where

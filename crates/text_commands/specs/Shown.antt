@@ -1,5 +1,5 @@
 -- What `show` prints of a record, byte by byte.
-use Rattle.std.specs.Prelude.{ℕ, ◌+◌, Bool, true, false, List, [], ◌∷◌, ◌++◌, length, codes}
+use Rattle.std.specs.Prelude.{ℕ, ◌+◌, ◌-◌, ◌==◌, Bool, true, false, if◌then◌else◌, List, [], ◌∷◌, ◌++◌, length, codes}
 use Rattle.std.specs.Fmt.{decimal}
 use Rattle.capture.specs.Text.{event_text, spaced}
 use Rattle.capture_record.specs.declared.event.Event.{Event}
@@ -61,18 +61,24 @@ abbrev pub event_name : Event → List ℕ
 event_name (Composed bytes) = codes "composed "
 event_name event = codes "user "
 
+-- what a receipt says, with its hint: its number; in a part of a run that of the other capture's `s` line, or `-` where the unit was sent before
+abbrev pub receipt_words : (is_part : Bool) → (hint : ℕ) → (unit : List ℕ) → List ℕ
+receipt_words false hint unit = spaced (decimal hint) unit
+receipt_words true hint unit =
+    if hint == 0 then codes "- " ++ (unit ++ codes ", sent before the other capture begins") else spaced (decimal (hint - 1)) unit
+
 -- the words of each record: a receipt's with its hint, and an event's as they are in its line
-abbrev pub record_words : Record → List ℕ
-record_words (Sent bytes) = codes "sent " ++ unit_words bytes
-record_words (Received hint fate bytes) = fate_words fate ++ spaced (decimal hint) (unit_words bytes)
-record_words (Noise bytes) = codes "noise " ++ unit_words bytes
-record_words (User event) = event_name event ++ event_text event
+abbrev pub record_words : (is_part : Bool) → Record → List ℕ
+record_words is_part (Sent bytes) = codes "sent " ++ unit_words bytes
+record_words is_part (Received hint fate bytes) = fate_words fate ++ receipt_words is_part hint (unit_words bytes)
+record_words is_part (Noise bytes) = codes "noise " ++ unit_words bytes
+record_words is_part (User event) = event_name event ++ event_text event
 
 -- a record's line: its number, its words and an LF
-abbrev pub shown_line : ℕ → Record → List ℕ
-shown_line number r = decimal number ++ 32 ∷ (record_words r ++ 10 ∷ [])
+abbrev pub shown_line : (is_part : Bool) → ℕ → Record → List ℕ
+shown_line is_part number r = decimal number ++ 32 ∷ (record_words is_part r ++ 10 ∷ [])
 
 -- the lines of records, the first of which has this number
-abbrev pub shown_lines : ℕ → List Record → List ℕ
-shown_lines number [] = []
-shown_lines number (r ∷ rest) = shown_line number r ++ shown_lines (number + 1) rest
+abbrev pub shown_lines : (is_part : Bool) → ℕ → List Record → List ℕ
+shown_lines is_part number [] = []
+shown_lines is_part number (r ∷ rest) = shown_line is_part number r ++ shown_lines is_part (number + 1) rest

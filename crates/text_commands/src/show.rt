@@ -6,8 +6,9 @@ ghost use Rattle.printing.specs.Printed.{Writes, moved, stream_of};
 ghost use Rattle.printing.specs.PrintedAlone.{shown_fault, shown_fault_status};
 ghost use Rattle.text_commands.specs.Showing.{Lists, Shows};
 
+use crate::opening::{either_read_on, open_text};
 use crate::shown_line::{LINE, put_line};
-use capture::{CaptureFault, CaptureReader, Departure, MAX_RECORDS, Page, text_read_on};
+use capture::{CaptureFault, Departure, MAX_RECORDS, Page};
 use printing::check::{print, print_failed_read, print_out_of_memory};
 use printing::text::{FAILED, FAULTY};
 use std::alloc::Global;
@@ -28,7 +29,7 @@ pub enum Ending {
     Cut(Option<CaptureFault>),
 }
 
-/// Prints a line for each record of the capture that a reader gives, and answers the status.
+/// Prints a line for each record of the capture, or of the part of a run, that a reader gives, and answers the status.
 ///
 /// The lines go to `out`, put together and written in large pieces. Status 0: the lines of all records were written. At a fault of the
 /// text the lines of the records before it are written, and then the fault to `err`: a faulty line and its kind, status 2; a failed
@@ -64,18 +65,20 @@ fn list_records<A: Read, O: Write>(
     requires { page.old ≡ [] }
     ensures { Lists (moved A.remaining a.old a.new) (moved O.contents out.old out.new) result }
 {
-    text_read_on();
-    let mut capture = match CaptureReader::open(alloc, a) {
-        Ok(capture) => capture,
+    either_read_on();
+    let opened = match open_text(alloc, a) {
+        Ok(opened) => opened,
         Err(fault) => return Ending::Faulty(fault),
     };
+    let is_part = opened.is_part;
+    let mut capture = opened.capture;
     for number in 0..MAX_RECORDS + 1 {
         match capture.advance(a) {
             Ok(Some(entry)) => {
                 let Ok(()) = page.make_room(LINE, out) else {
                     return Ending::Cut(None);
                 };
-                put_line(page, number, entry, capture.bytes());
+                put_line(page, is_part, number, entry, capture.bytes());
             }
             Ok(None) => match page.write_out(out) {
                 Ok(()) => return Ending::Whole,

@@ -10,7 +10,7 @@ ghost use Rattle.capture.specs.declared.page.TheConstants.{PAGE_SIZE};
 ghost use Rattle.ddcmp_msg.specs.Message.{view};
 ghost use Rattle.ddcmp_msg.specs.Reading.{reading, reading_view};
 ghost use Rattle.text_commands.specs.declared.shown_line.TheConstants.{LINE};
-ghost use Rattle.text_commands.specs.Shown.{flags_digits, data_words, message_words, reading_words, unit_words, record_words, shown_line};
+ghost use Rattle.text_commands.specs.Shown.{flags_digits, data_words, message_words, reading_words, receipt_words, unit_words, record_words, shown_line};
 
 use capture::Page;
 use capture_record::{Entry, Fate};
@@ -19,22 +19,23 @@ use ddcmp_msg::{Flags, Message, Reading, read_unit};
 /// More bytes than a line has: two digits for each byte of a longest message, and some words and numbers.
 pub const LINE: usize = 132_000;
 
-/// Appends the line of the record of this entry and these bytes, with its LF: its number, and what it says.
-pub fn put_line(page: &mut Page, number: u64, entry: Entry, bytes: &[u8])
+/// Appends the line of the record of this entry and these bytes, with its LF: its number, and what it says. In a part of a run hints mean another
+/// thing.
+pub fn put_line(page: &mut Page, is_part: bool, number: u64, entry: Entry, bytes: &[u8])
     requires record { IsRecord (record_with entry bytes.now) }
     requires room { length page.old + LINE ≤ PAGE_SIZE }
-    ensures { page.new ≡ page.old ++ shown_line number (record_with entry bytes.now) }
+    ensures { page.new ≡ page.old ++ shown_line is_part number (record_with entry bytes.now) }
 {
     page.put_number(number);
-    put_entry(page, entry, bytes);
+    put_entry(page, is_part, entry, bytes);
     page.put(b"\n");
 }
 
 // A space, and what a record says.
-fn put_entry(page: &mut Page, entry: Entry, bytes: &[u8])
+fn put_entry(page: &mut Page, is_part: bool, entry: Entry, bytes: &[u8])
     requires record { IsRecord (record_with entry bytes.now) }
     requires room { length page.old + 131_800 ≤ PAGE_SIZE }
-    ensures bytes { page.new ≡ page.old ++ 32 ∷ record_words (record_with entry bytes.now) }
+    ensures bytes { page.new ≡ page.old ++ 32 ∷ record_words is_part (record_with entry bytes.now) }
     ensures len { length page.new ≤ length page.old + 131_800 }
 {
     match entry {
@@ -47,21 +48,21 @@ fn put_entry(page: &mut Page, entry: Entry, bytes: &[u8])
             hint,
         } => {
             page.put(b" received ");
-            put_receipt(page, hint, bytes);
+            put_receipt(page, is_part, hint, bytes);
         }
         Entry::Received {
             fate: Fate::Kept,
             hint,
         } => {
             page.put(b" kept ");
-            put_receipt(page, hint, bytes);
+            put_receipt(page, is_part, hint, bytes);
         }
         Entry::Received {
             fate: Fate::Dropped,
             hint,
         } => {
             page.put(b" dropped ");
-            put_receipt(page, hint, bytes);
+            put_receipt(page, is_part, hint, bytes);
         }
         Entry::Noise => {
             page.put(b" noise ");
@@ -87,12 +88,31 @@ fn put_entry(page: &mut Page, entry: Entry, bytes: &[u8])
 }
 
 // The hint of a receipt, and what came.
-fn put_receipt(page: &mut Page, hint: u64, bytes: &[u8])
+fn put_receipt(page: &mut Page, is_part: bool, hint: u64, bytes: &[u8])
     requires room { length page.old + 300 ≤ PAGE_SIZE }
-    ensures bytes { page.new ≡ page.old ++ spaced (decimal hint) (unit_words bytes.now) }
+    ensures bytes { page.new ≡ page.old ++ receipt_words is_part hint (unit_words bytes.now) }
     ensures len { length page.new ≤ length page.old + 300 }
 {
-    page.put_number(hint);
+    if !is_part {
+        put_hinted(page, hint, bytes);
+        return;
+    }
+    if hint == 0 {
+        page.put(b"- ");
+        put_unit(page, bytes);
+        page.put(b", sent before the other capture begins");
+        return;
+    }
+    put_hinted(page, hint - 1, bytes);
+}
+
+// The number of a unit, and what came.
+fn put_hinted(page: &mut Page, number: u64, bytes: &[u8])
+    requires room { length page.old + 300 ≤ PAGE_SIZE }
+    ensures bytes { page.new ≡ page.old ++ spaced (decimal number) (unit_words bytes.now) }
+    ensures len { length page.new ≤ length page.old + 300 }
+{
+    page.put_number(number);
     page.put(b" ");
     put_unit(page, bytes);
 }
@@ -222,8 +242,8 @@ fn put_message_event(page: &mut Page, words: &[u8], link: u16, bytes: &[u8])
     put_message_bytes(page, bytes);
 }
 
-// A space and BYTES: `-` for no bytes, else two digits for each.
-fn put_message_bytes(page: &mut Page, bytes: &[u8])
+/// A space and BYTES: `-` for no bytes, else two digits for each.
+pub fn put_message_bytes(page: &mut Page, bytes: &[u8])
     requires short { length bytes.now ≤ MAX_MESSAGE }
     requires room { length page.old + 131_071 ≤ PAGE_SIZE }
     ensures bytes { page.new ≡ page.old ++ (codes " " ++ bytes_text bytes.now) }

@@ -90,7 +90,11 @@ impl AccusedRow {
         }
         write!(
             f,
-            "accused  nobody, if {other}'s recorder ended earlier: cut {side} before line {line};\n"
+            "accused  nobody, if {other}'s recorder ended earlier: cut {side} before line {line},\n"
+        )?;
+        write!(
+            f,
+            "         or make {other} a part of a run (convert 4), for check --line;\n"
         )?;
         f.write_str("         else the hints, or captures that do not pair\n")
     }
