@@ -3,7 +3,4 @@
 
 mod all_files;
 pub mod check_files;
-mod looked;
 mod packets;
-mod part_files;
-mod part_pairs;
