@@ -1,10 +1,10 @@
 //! `check` and `alone` between the names of their files and their status.
 
 use crate::all_files::{alone_all_file, check_all_pair};
-use crate::looked::{Looked, NamedSide, look_at, not_looked_at};
-use crate::part_files::alone_part_to;
-use crate::part_pairs::{PairAsked, check_parts_to, has_part};
 use departure_words::{advised, advised_pair};
+use part_command::looked::{Looked, NamedSide, look_at, not_looked_at};
+use part_command::part_files::alone_part_to;
+use part_command::part_pairs::{PairAsked, check_parts_to, has_part};
 use printing::alone::alone_to;
 use printing::answers::{
     alone_json_to, check_json_to, check_named_to, not_judged, print_name, print_told,

@@ -3,6 +3,3 @@
 
 mod all_files;
 pub mod check_files;
-mod looked;
-mod part_files;
-mod part_pairs;

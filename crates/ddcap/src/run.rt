@@ -13,6 +13,7 @@ use cover_command::cover_files::cover_files;
 use departure_words::advised;
 use draw_command::draw_files::draw_files;
 use pair_judge::Reason;
+use part_command::why_parts::{PartPrintout, why_if_part, why_if_parts};
 use printing::check::{print, print_failed_read, print_out_of_memory};
 use printing::fault_told::FaultTold;
 use printing::files::{Named, Wanted, another_of, opened, opened_plain};
@@ -115,6 +116,18 @@ impl<R: Files + AllocGlobal, O: Write, E: Write> Program<'_, '_, '_, R, O, E> {
             self.err,
         )?;
         let alloc = self.rt.alloc();
+        if judges_parts(refusals, printout.layers) {
+            let of_parts = PartPrintout {
+                form: printout.form,
+                full: printout.full,
+                name_a: printout.name_a,
+                name_b: printout.name_b,
+            };
+            let told = why_if_parts(alloc, of_parts, &mut a, &mut b, self.out, self.err);
+            if let Some(status) = told {
+                return Ok(status);
+            }
+        }
         let status = match refusals {
             Refusals::First => why_to(alloc, printout, &mut a, &mut b, self.out, self.err),
             Refusals::All => why_all_to(alloc, printout, &mut a, &mut b, self.out, self.err),
@@ -132,6 +145,18 @@ impl<R: Files + AllocGlobal, O: Write, E: Write> Program<'_, '_, '_, R, O, E> {
         printout: EndPrintout<'_>,
     ) -> Result<u8, FaultTold> {
         let mut file = opened_plain(self.rt, Wanted::by_path(Named::A, printout.name), self.err)?;
+        if judges_parts(refusals, printout.layers) {
+            let of_part = PartPrintout {
+                form: printout.form,
+                full: printout.full,
+                name_a: printout.name,
+                name_b: "",
+            };
+            let told = why_if_part(self.rt.alloc(), of_part, &mut file, self.out, self.err);
+            if let Some(status) = told {
+                return Ok(status);
+            }
+        }
         let mut again = EndAgain {
             file: another_of(&file),
             has_failed: false,
@@ -212,6 +237,11 @@ impl<R: Files + AllocGlobal, O: Write, E: Write> Program<'_, '_, '_, R, O, E> {
         let explanation = explanation_of(reason);
         Ok(explain_to(self.rt.alloc(), &explanation, self.out, self.err))
     }
+}
+
+// Parts of a run are judged of stations alone, up to the first refusal.
+fn judges_parts(refusals: Refusals, layers: Layers) -> bool {
+    refusals == Refusals::First && layers == Layers::Station
 }
 
 // The words as text. One that is not UTF-8 makes them bad words.

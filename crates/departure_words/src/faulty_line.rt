@@ -87,7 +87,7 @@ fn allowed_else(kind: Departure) -> Option<&'static str> {
     match kind {
         Departure::TooMany => Some("at most 1,000,000,000,000 records"),
         Departure::Part => Some(
-            "a whole capture, in format 1, 2 or 3: only alone --line and check --line judge a part",
+            "a whole capture, in format 1, 2 or 3: only alone, check and why with --line judge a part",
         ),
         Departure::Syntax | Departure::TooLong => None,
     }

@@ -1,12 +1,13 @@
 -- One end of a part along its capture: what was read, what was made of it, and what an answer then says.
 use Rattle.std.proofs.Common.{◌≡◌, Bool, true, false, if◌then◌else◌, ℕ, ◌+◌, ◌<◌, ◌≤◌, ◌^◌, List, [], ◌∷◌}
-use Rattle.std.proofs.Common.{◌++◌, length, Option, Some, None, Result, Ok, Err, refl, sym, ap, subst, ◌∙◌}
+use Rattle.std.proofs.Common.{◌++◌, length, Option, Some, None, IfSome, Result, Ok, Err, inl, inr, refl, sym, ap, subst, ◌∙◌}
 use Rattle.std.proofs.Common.{arith, length-append, append-nil, append_assoc}
 use Rattle.std.proofs.lemmas.List.Sums.{count_by-le-length}
 use Rattle.std.specs.Io.KnownBytes.{Consumes, IsAtEnd}
 use Rattle.capture.specs.declared.fault.CaptureFault.{CaptureFault}
-use Rattle.capture.specs.declared.fault.CaptureFault.TheVariants.{Failed}
+use Rattle.capture.specs.declared.fault.CaptureFault.TheVariants.{Departs, Read, OutOfMemory, Failed}
 use Rattle.capture.specs.declared.fault.Departure.{Departure}
+use Rattle.capture.specs.declared.fault.Departure.TheVariants.{Syntax}
 use Rattle.capture.specs.declared.hint.HintForm.{HintForm}
 use Rattle.capture.specs.declared.hint.HintForm.TheVariants.{Part}
 use Rattle.capture.specs.declared.limit.TheConstants.{MAX_RECORDS}
@@ -15,9 +16,11 @@ use Rattle.capture_record.specs.declared.record.Record.{Record}
 use Rattle.capture_record.specs.declared.record.Record.TheVariants.{Sent, Received, Noise, User}
 use Rattle.capture_record.specs.Range.{IsRecord, NumbersFit}
 use Rattle.capture.specs.Lines.{to_come}
-use Rattle.capture.specs.Text.{form_after, record_line}
-use Rattle.capture.specs.Reader.{CaptureState, FaultShows, OpensPart, NextGives}
-use Rattle.capture.specs.SoFar.{ToCome, TheEnd, so_far, IsPartSoFar}
+use Rattle.capture.specs.Departing.{RecordDeparts}
+use Rattle.capture.specs.Opening.{EitherHeadDeparts}
+use Rattle.capture.specs.Text.{form_after, format_of, record_line}
+use Rattle.capture.specs.Reader.{CaptureState, FaultShows, Opens, OpensPart, NextGives}
+use Rattle.capture.specs.SoFar.{DepartsBehind, ToCome, TheEnd, so_far, IsPartSoFar}
 use Rattle.dna_station.specs.declared.refusal.StepRefusal.{StepRefusal}
 use Rattle.dna_station.specs.declared.refusal.StepRefusal.TheVariants.{HintOrder}
 use Rattle.dna_node.specs.Alone.{ThisEnd}
@@ -38,7 +41,7 @@ use Rattle.part_station.specs.Piece.{HasBytes}
 use Rattle.part_station.proofs.Growth.{first_low}
 use Rattle.part_station.proofs.LowSteps.{low_step}
 use Rattle.part_judge.specs.declared.part_end.PartEnd.{PartEnd}
-use Rattle.part_judge.specs.Judged.{HasPassedInPart, IsFault, IsRefusedInPart}
+use Rattle.part_judge.specs.Judged.{HasPassedInPart, IsFault, IsFaultyInPart, IsRefusedInPart, NoHead, WholeHead}
 use Rattle.part_judge.specs.Steps.{PartNode, StepInPart, Makes, Refuses, ends_from, first_node, goes_on, judged_in_part}
 use Rattle.part_judge.specs.Steps.{is_early, made, step_in_part}
 use Rattle.part_judge.specs.Ends.{HasRoomInPart, HintIsLow, IsMadeInPart, node_of_end}
@@ -226,7 +229,34 @@ passed text come capture end number h laws at_end = record {
   counts = h.counts;
 }
 
-pub fault_says : (kinds : Departure → List ℕ → Type 0) (at : ℕ) (come : Option (List ℕ)) (fault : CaptureFault) →
-    FaultShows kinds at come fault → IsFault fault
-fault_says kinds at come Failed shows = absurd shows
-fault_says kinds at come fault shows = tt
+-- ---- a fault of the text
+
+pub no_head : (text : Option (List ℕ)) (fault : CaptureFault) → FaultShows EitherHeadDeparts 1 text fault → IsFault text fault
+no_head text (Departs kind line) shows = inl (NoHead kind shows.1, shows.0)
+no_head text Read shows = tt
+no_head text OutOfMemory shows = tt
+no_head text Failed shows = absurd shows
+
+pub whole_head : (text after : Option (List ℕ)) (state : CaptureState) → Opens text after (Ok state) → IsFault text (Departs Syntax 1)
+whole_head text after state opens =
+    inl (WholeHead (format_of state.form) state.own state.peer (to_come state.unread after) opens.4, refl)
+
+module _ (text come : Option (List ℕ)) (capture : CaptureState) (end : PartEnd) (number : ℕ) (h : HasMade text come capture end number) where
+  departs : (kind : Departure) (line : ℕ) → (line ≡ capture.records + 2) × IfSome come (RecordDeparts capture.form capture.records kind) →
+      DepartsBehind (so_far Part capture.own capture.peer h.records (ToCome come)) kind line
+  departs kind line shows = record {
+    departs = rw (h.form, h.counted_there ∙ sym h.count) at shows.1;
+    line_is = shows.0 ∙ ap (λ (n : ℕ). n + 2) (h.counted_there ∙ sym h.count);
+  }
+
+  pub faulty : (fault : CaptureFault) → FaultShows (RecordDeparts capture.form capture.records) (capture.records + 2) come fault → IsFault text fault
+  faulty (Departs kind line) shows = inr (record {
+    read = so_far Part capture.own capture.peer h.records (ToCome come);
+    from = h.read;
+    departs = departs kind line shows;
+    node = node_of_end end;
+    passes = ap judged_in_part (sym (append-nil h.records)) ∙ h.made [];
+  })
+  faulty Read shows = tt
+  faulty OutOfMemory shows = tt
+  faulty Failed shows = absurd shows

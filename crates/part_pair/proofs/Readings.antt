@@ -1,7 +1,13 @@
 -- How what was read of a text grows with a side's next record, be it a part's or a whole capture's.
-use Rattle.std.proofs.Common.{◌≡◌, Bool, true, false, ℕ, ◌+◌, ◌<◌, ◌≤◌, List, [], ◌∷◌, ◌++◌, length, Option, Some, None, Ok, sym, ap, subst, ◌∙◌}
+use Rattle.std.proofs.Common.{◌≡◌, Bool, true, false, ℕ, ◌+◌, ◌<◌, ◌≤◌, List, [], ◌∷◌, ◌++◌, length, Option, Some, None, Ok, inl, inr}
+use Rattle.std.proofs.Common.{sym, ap, subst, ◌∙◌}
 use Rattle.std.proofs.Common.{arith, length-append, append-nil}
 use Rattle.std.specs.Io.KnownBytes.{Consumes, IsAtEnd}
+use Rattle.wire_base.specs.declared.side.Side.{Side as Which}
+use Rattle.capture.specs.declared.fault.CaptureFault.{CaptureFault}
+use Rattle.capture.specs.declared.fault.CaptureFault.TheVariants.{Departs}
+use Rattle.capture.specs.Departing.{RecordDeparts}
+use Rattle.capture.specs.Opening.{EitherHeadDeparts}
 use Rattle.capture.specs.declared.limit.TheConstants.{MAX_RECORDS}
 use Rattle.capture.specs.declared.hint.HintForm.{HintForm}
 use Rattle.capture_record.specs.declared.entry.Entry.{Entry}
@@ -10,7 +16,7 @@ use Rattle.capture_record.specs.Entries.{record_with}
 use Rattle.capture_record.specs.Range.{IsRecord}
 use Rattle.capture.specs.Range.{IsInForm}
 use Rattle.capture.specs.Lines.{to_come}
-use Rattle.capture.specs.Reader.{NextGives, Opens, OpensPart}
+use Rattle.capture.specs.Reader.{FaultShows, NextGives, Opens, OpensPart}
 use Rattle.capture.specs.SoFar.{ToCome, TheEnd, so_far}
 use Rattle.capture.specs.Text.{form_after, record_line}
 use Rattle.part_station.specs.Low.{AreAllLow}
@@ -20,10 +26,12 @@ use Rattle.pair_judge.specs.Summary.{counts_of}
 use Rattle.part_judge.proofs.PartWalk.{PartLaws}
 use Rattle.part_pair.specs.declared.course.Ahead.TheVariants.{Unread, Waits, Ended}
 use Rattle.part_pair.specs.declared.course.Course.{Course}
-use Rattle.part_pair.specs.Judged.{IsSoFar}
+use Rattle.pair_judge.specs.Faulty.{side_fault_of}
+use Rattle.pair_judge.specs.Finding.{of_side}
+use Rattle.part_pair.specs.Judged.{IsPartsFault, IsSoFar}
 use Rattle.part_pair.specs.Sides.{Side, first_side}
 use Rattle.part_pair.specs.inner.Ends.{side_of}
-use Rattle.part_pair.specs.inner.Tracks.{IsForm, IsRead, along}
+use Rattle.part_pair.specs.inner.Tracks.{IsFaultOfText, IsForm, IsRead, along}
 
 module _ (whole : GrowingLaws) (part : PartLaws) (text before : Option (List ℕ)) (form : HintForm) (own peer : ℕ) (rs : List Record) where
   -- one record more
@@ -45,9 +53,8 @@ form_on : (is_part : Bool) (form : HintForm) (r : Record) → IsForm is_part for
 form_on true form r is = ap (λ (f : HintForm). form_after f r) is
 form_on false form r is = tt
 
-module _ (whole : GrowingLaws) (part : PartLaws) (text before after : Option (List ℕ)) (old new : Course) (made : List Record)
-    (unread : old.ahead ≡ Unread) (same : new.side ≡ old.side) (own : new.capture.own ≡ old.capture.own) (peer : new.capture.peer ≡ old.capture.peer)
-    (h : IsRead (along text old before made)) where
+module _ (text before : Option (List ℕ)) (old : Course) (made : List Record) (unread : old.ahead ≡ Unread) (h : IsRead (along text old before made))
+    where
   so : IsSoFar old.side.is_part text (so_far old.capture.form old.capture.own old.capture.peer made (ToCome before))
   so = rw (unread, append-nil made) at h.so_far
 
@@ -57,30 +64,54 @@ module _ (whole : GrowingLaws) (part : PartLaws) (text before after : Option (Li
   few : length made ≤ MAX_RECORDS
   few = rw (unread, append-nil made) at h.few
 
-  -- the next record was read
-  pub read_on : (entry : Entry) → new.ahead ≡ Waits entry →
-      NextGives old.capture new.capture before after (Ok (Some (record_with entry new.capture.bytes))) → IsRead (along text new after made)
-  read_on entry is gives = record {
-    so_far = rw (is, same, own, peer, gives.5) (grows whole part text before old.capture.form old.capture.own old.capture.peer made
-        old.side.is_part after (record_with entry new.capture.bytes) h.form so (omega (arith, gives.1, count)) gives.0 gives.4 gives.6);
-    form = rw (same, gives.5) (form_on old.side.is_part old.capture.form (record_with entry new.capture.bytes) h.form);
-    count = rw is (gives.2 ∙ ap (λ (n : ℕ). n + 1) count ∙ sym (length-append made (record_with entry new.capture.bytes ∷ [])));
-    few = rw is (omega (arith, length-append made (record_with entry new.capture.bytes ∷ []), gives.1, count));
-    counts = rw same h.counts;
-    low = rw same h.low;
-  }
+  -- the next line departs
+  pub faulty : (fault : CaptureFault) → FaultShows (RecordDeparts old.capture.form old.capture.records) (old.capture.records + 2) before fault →
+      IsFaultOfText text fault
+  faulty (Departs kind line) shows = inr (record {
+    is_part = old.side.is_part;
+    read = so_far old.capture.form old.capture.own old.capture.peer made (ToCome before);
+    from = so;
+    departs = record { departs = rw count at shows.1; line_is = shows.0 ∙ ap (λ (n : ℕ). n + 2) count };
+  })
+  faulty fault shows = tt
 
-  -- or the end was found
-  pub ended : new.ahead ≡ Ended → NextGives old.capture new.capture before after (Ok None) → IsRead (along text new after made)
-  ended is gives = record {
-    so_far = rw (is, same, own, peer, gives.3, append-nil made) (ends whole part text before old.capture.form old.capture.own old.capture.peer made
-        old.side.is_part h.form so gives.0);
-    form = rw (same, gives.3) h.form;
-    count = rw (is, append-nil made) (gives.1 ∙ count);
-    few = rw (is, append-nil made) few;
-    counts = rw same h.counts;
-    low = rw same h.low;
-  }
+  module _ (whole : GrowingLaws) (part : PartLaws) (after : Option (List ℕ)) (new : Course) (same : new.side ≡ old.side)
+      (own : new.capture.own ≡ old.capture.own) (peer : new.capture.peer ≡ old.capture.peer) where
+    -- the next record was read
+    pub read_on : (entry : Entry) → new.ahead ≡ Waits entry →
+        NextGives old.capture new.capture before after (Ok (Some (record_with entry new.capture.bytes))) → IsRead (along text new after made)
+    read_on entry is gives = record {
+      so_far = rw (is, same, own, peer, gives.5) (grows whole part text before old.capture.form old.capture.own old.capture.peer made
+          old.side.is_part after (record_with entry new.capture.bytes) h.form so (omega (arith, gives.1, count)) gives.0 gives.4 gives.6);
+      form = rw (same, gives.5) (form_on old.side.is_part old.capture.form (record_with entry new.capture.bytes) h.form);
+      count = rw is (gives.2 ∙ ap (λ (n : ℕ). n + 1) count ∙ sym (length-append made (record_with entry new.capture.bytes ∷ [])));
+      few = rw is (omega (arith, length-append made (record_with entry new.capture.bytes ∷ []), gives.1, count));
+      counts = rw same h.counts;
+      low = rw same h.low;
+    }
+
+    -- or the end was found
+    pub ended : new.ahead ≡ Ended → NextGives old.capture new.capture before after (Ok None) → IsRead (along text new after made)
+    ended is gives = record {
+      so_far = rw (is, same, own, peer, gives.3, append-nil made) (ends whole part text before old.capture.form old.capture.own old.capture.peer made
+          old.side.is_part h.form so gives.0);
+      form = rw (same, gives.3) h.form;
+      count = rw (is, append-nil made) (gives.1 ∙ count);
+      few = rw (is, append-nil made) few;
+      counts = rw same h.counts;
+      low = rw same h.low;
+    }
+
+-- ---- a fault of the first line, and what is answered of a fault
+
+pub no_head : (text : Option (List ℕ)) (fault : CaptureFault) → FaultShows EitherHeadDeparts 1 text fault → IsFaultOfText text fault
+no_head text (Departs kind line) shows = inl (shows.1, shows.0)
+no_head text fault shows = tt
+
+pub answered_fault : (side : Which) (text_a text_b : Option (List ℕ)) (fault : CaptureFault) → IsFaultOfText (of_side side text_a text_b) fault →
+    IsPartsFault text_a text_b (side_fault_of side fault)
+answered_fault side text_a text_b (Departs kind line) is = is
+answered_fault side text_a text_b fault is = tt
 
 -- ---- at first
 

@@ -1,11 +1,15 @@
 -- What an answer of the judge of two captures of which at least one is a part says of the bytes that its readers had left.
-use Rattle.std.specs.Prelude.{◌≡◌, ℕ, ◌<◌, Bool, true, false, List, length, Option, Some, None, Result, Ok, Err}
+use Rattle.std.specs.Prelude.{◌≡◌, ℕ, ◌<◌, ◌⊎◌, Bool, true, false, List, length, Option, Some, None, IfSome, Result, Ok, Err}
 use Rattle.wire_base.specs.declared.side.Side.{Side}
 use Rattle.wire_base.specs.declared.side.Side.TheVariants.{A, B}
 use Rattle.capture_record.specs.declared.record.Record.{Record}
-use Rattle.capture.specs.SoFar.{TheEnd, ReadSoFar, IsPartSoFar, IsReadSoFar, GoesOn}
+use Rattle.capture.specs.declared.fault.Departure.{Departure}
+use Rattle.capture.specs.Opening.{EitherHeadDeparts}
+use Rattle.capture.specs.SoFar.{TheEnd, ReadSoFar, IsPartSoFar, IsReadSoFar, GoesOn, DepartsBehind}
 use Rattle.dna_node.specs.declared.finding.Cause.{Cause}
 use Rattle.pair_judge.specs.declared.fault.JudgeFault.{JudgeFault}
+use Rattle.pair_judge.specs.declared.fault.JudgeFault.TheVariants.{Capture, OutOfMemory}
+use Rattle.pair_judge.specs.declared.fault.TextFault.TheVariants.{Departs, Read}
 use Rattle.pair_judge.specs.declared.reason.Reason.{Reason}
 use Rattle.pair_judge.specs.declared.summary.Summary.{Summary}
 use Rattle.pair_judge.specs.declared.verdict.Verdict.{Verdict}
@@ -72,7 +76,25 @@ abbrev pub VerdictSays : Option (List ℕ) → Option (List ℕ) → Option Judg
 VerdictSays text_a text_b alone (Accepted summary) = AreAccepted text_a text_b summary alone
 VerdictSays text_a text_b alone (Refused side place reason) = AreRefused text_a text_b side place reason × (alone ≡ None)
 
+-- So much was read of a text, and the line after it departs.
+pub record IsFaultyBehind (text : Option (List ℕ)) (kind : Departure) (line : ℕ) : Type 0 where
+  pub is_part : Bool
+  pub read : ReadSoFar
+  pub from : IsSoFar is_part text read
+  pub departs : DepartsBehind read kind line
+
+-- the first line departs from every head; or the line after those that were read does
+abbrev pub IsFaultyCapture : Option (List ℕ) → Departure → ℕ → Type 0
+IsFaultyCapture text kind line = (IfSome text (EitherHeadDeparts kind) × (line ≡ 1)) ⊎ IsFaultyBehind text kind line
+
+-- a fault of a text, of a device or of memory
+abbrev pub IsPartsFault : Option (List ℕ) → Option (List ℕ) → JudgeFault → Type 0
+IsPartsFault text_a text_b (Capture side (Departs kind line)) = IsFaultyCapture (of_side side text_a text_b) kind line
+-- of a failed read the reader's count tells
+IsPartsFault text_a text_b (Capture side Read) = Unit {0}
+IsPartsFault text_a text_b OutOfMemory = Unit {0}
+
 -- of whatever the readers tell
 abbrev pub IsPartsAnswer : Option (List ℕ) → Option (List ℕ) → Result PartsVerdict JudgeFault → Type 0
 IsPartsAnswer text_a text_b (Ok answer) = VerdictSays text_a text_b answer.alone answer.verdict
-IsPartsAnswer text_a text_b (Err fault) = Unit {0}
+IsPartsAnswer text_a text_b (Err fault) = IsPartsFault text_a text_b fault

@@ -13,7 +13,7 @@ ghost use Rattle.part_pair.specs.declared.course.Ahead.TheVariants as Ahead;
 ghost use Rattle.part_judge.specs.Ends.{HasRoomInPart};
 ghost use Rattle.part_pair.specs.Sides.{first_side};
 ghost use Rattle.part_pair.specs.inner.Ends.{side_of};
-ghost use Rattle.part_pair.specs.inner.Tracks.{AdvanceIs, IsLookedAt, IsRead, IsReady, MayRead, along, facing_of};
+ghost use Rattle.part_pair.specs.inner.Tracks.{AdvanceIs, IsFaultOfText, IsLookedAt, IsRead, IsReady, MayRead, along, facing_of};
 
 use crate::facing::Facing;
 use crate::side_end::{MadeInPair, SideEnd};
@@ -63,6 +63,7 @@ impl Course {
             (to_come course.capture.unread (R.remaining (tally_lent reader.new))) [])) }
         ensures side { IfOk result (λ course. side_of course.side ≡ first_side course.side.is_part) }
         ensures may_read { IfOk result MayRead }
+        ensures fault { IfErr result (IsFaultOfText (R.remaining (tally_lent reader.old))) }
         ensures first { IfErr result (λ fault. fault ≢ CaptureFault.Failed) }
         ensures reads { CountsReads (is_failed_read result) (tally_faults reader.old) (tally_faults reader.new) }
     {
@@ -112,6 +113,8 @@ impl Course {
         ensures looked { IfOk result (λ _. IsLookedAt self.old self.new) }
         ensures ready { IfOk result (λ _. IsReady self.new) }
         ensures side { self.new.side ≡ self.old.side }
+        ensures fault { IfErr result (λ fault. (text : Option (List ℕ)) (made : List Record) →
+            IsRead (along text self.old (to_come self.old.capture.unread (R.remaining (tally_lent reader.old))) made) → IsFaultOfText text fault) }
         ensures first { IfErr result (λ fault. fault ≢ CaptureFault.Failed) }
         ensures reads { CountsReads (is_failed_read result) (tally_faults reader.old) (tally_faults reader.new) }
     {

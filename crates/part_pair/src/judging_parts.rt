@@ -30,8 +30,9 @@ const MOST_TURNS: u64 = 2 * MAX_RECORDS + 1;
 /// is judged as one end alone; of those units it is asked that their numbers rise. So `NoSuchUnit` is never answered of a part.
 ///
 /// `Accepted`: all records of both were made; their counts, and which side was judged alone, from which record on, if one was. `Refused`: however the
-/// texts go on after what was read of them by then, the named record can't be made for this reason (`refused_parts_are_no_pieces`), or it waits for
-/// a unit that a whole capture never has (`NoSuchUnit`), or neither side can go on (`NoOrder`).
+/// texts go on after what was read of them by then, the named record can't be made for this reason, or it waits for a unit that a whole capture never
+/// has (`NoSuchUnit`), or neither side can go on (`NoOrder`). Of a refusal by what one side shows it is proved that its records are no piece of a run
+/// (`refused_parts_are_no_pieces`); of `HintOrder`, `Undetected`, `NoSuchUnit` and `NoOrder` it is not.
 ///
 /// `Capture`: the line of that side departs from its format as named, or a read of that side failed. `OutOfMemory`: an allocation was refused. At
 /// every answer but a failed read of a side the count of its reader's failed calls stays as it was.

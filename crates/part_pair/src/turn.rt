@@ -13,7 +13,8 @@ ghost use Rattle.pair_judge.specs.declared.fault.JudgeFault.TheVariants as Judge
 ghost use Rattle.dna_node.specs.declared.finding.Finding.TheVariants as Finding;
 ghost use Rattle.part_pair.specs.declared.course.Ahead.TheVariants as Ahead;
 ghost use Rattle.part_pair.specs.declared.course.Course.{Course};
-ghost use Rattle.part_pair.specs.inner.Tracks.{IsLookedAt, IsReady, IsUnderWay, MayRead, Stands, TurnIs, along_b, both};
+ghost use Rattle.part_pair.specs.Judged.{IsPartsFault};
+ghost use Rattle.part_pair.specs.inner.Tracks.{IsLookedAt, IsRead, IsReady, IsUnderWay, MayRead, Stands, TurnIs, along, along_b, both};
 
 use crate::course::{Advance, Course};
 use capture::CaptureFault;
@@ -48,6 +49,10 @@ pub fn turn<R: Read, S: Read>(
         (along_b text_b b.old (to_come b.old.capture.unread (S.remaining (tally_lent reader_b.old))))) made_a made_b →
         TurnIs turn (both text_a a.new (to_come a.new.capture.unread (R.remaining (tally_lent reader_a.new)))
         (along_b text_b b.new (to_come b.new.capture.unread (S.remaining (tally_lent reader_b.new))))) (length made_a + length made_b)) }
+    ensures fault { IfErr result (λ fault. (text_a text_b : Option (List ℕ)) (made_a made_b : List Record) →
+        IsRead (along text_a a.old (to_come a.old.capture.unread (R.remaining (tally_lent reader_a.old))) made_a) →
+        IsRead (along text_b b.old (to_come b.old.capture.unread (S.remaining (tally_lent reader_b.old))) made_b) →
+        IsPartsFault text_a text_b fault) }
     ensures reads_a { CountsReads (is_failed_read_of Side.A result) (tally_faults reader_a.old) (tally_faults reader_a.new) }
     ensures reads_b { CountsReads (is_failed_read_of Side.B result) (tally_faults reader_b.old) (tally_faults reader_b.new) }
 {
@@ -73,6 +78,9 @@ fn turn_of_a<S: Read>(
         TurnIs turn (both text_a a.new come_a
         (along_b text_b b.new (to_come b.new.capture.unread (S.remaining (tally_lent reader_b.new))))) (length made_a + length made_b)) }
     ensures same { IfOk result (λ _. a.new.capture ≡ a.old.capture) }
+    ensures fault { IfErr result (λ fault. (text_a text_b : Option (List ℕ)) (made_b : List Record) →
+        IsRead (along text_b b.old (to_come b.old.capture.unread (S.remaining (tally_lent reader_b.old))) made_b) →
+        IsPartsFault text_a text_b fault) }
     ensures reads { CountsReads (is_failed_read_of Side.B result) (tally_faults reader_b.old) (tally_faults reader_b.new) }
     ensures other { is_failed_read_of Side.A result ≡ false }
 {
@@ -103,6 +111,9 @@ fn turn_behind_a<S: Read>(
         TurnIs turn (both text_a a.new come_a
         (along_b text_b b.new (to_come b.new.capture.unread (S.remaining (tally_lent reader_b.new))))) (length made_a + length made_b)) }
     ensures same { IfOk result (λ _. a.new.capture ≡ a.old.capture) }
+    ensures fault { IfErr result (λ fault. (text_a text_b : Option (List ℕ)) (made_b : List Record) →
+        IsRead (along text_b b.old (to_come b.old.capture.unread (S.remaining (tally_lent reader_b.old))) made_b) →
+        IsPartsFault text_a text_b fault) }
     ensures reads { CountsReads (is_failed_read_of Side.B result) (tally_faults reader_b.old) (tally_faults reader_b.new) }
     ensures other { is_failed_read_of Side.A result ≡ false }
 {

@@ -26,9 +26,27 @@ const BYTES_BEHIND_WORDS: usize = 16;
 /// The JSON object of the record of this entry and these bytes, with its LF: `{"what": "record", "kind": "s", "bytes": .., ..}`. The bytes are
 /// printed as hexadecimal digits alone, and whole. Fails for want of memory alone.
 pub fn record_json(alloc: Global, entry: Entry, bytes: &[u8]) -> Result<String, AllocError> {
+    object_of(alloc, entry, false, bytes)
+}
+
+/// The same of a record of a part of a run, whose hint is counted from 1 on: 0 is a unit that was sent before the other capture begins.
+pub fn part_record_json(alloc: Global, entry: Entry, bytes: &[u8]) -> Result<String, AllocError> {
+    match in_part(entry) {
+        Some(entry) => object_of(alloc, entry, false, bytes),
+        None => object_of(alloc, entry, true, bytes),
+    }
+}
+
+fn object_of(
+    alloc: Global,
+    entry: Entry,
+    before: bool,
+    bytes: &[u8],
+) -> Result<String, AllocError> {
     let spelled = spelled(alloc, bytes)?;
     let keys = RecordTold {
         entry,
+        before,
         digits: spelled.as_str(),
         bytes,
         reading: read_unit(bytes),
@@ -68,6 +86,46 @@ pub fn record_text(
         _ => put_event(alloc, &mut text, entry, bytes, full)?,
     }
     Ok(text)
+}
+
+/// The same of a record of a part of a run, whose hint is counted from 1 on: 0 is a unit that was sent before the other capture begins.
+pub fn part_record_text(
+    alloc: Global,
+    place: (&str, u128),
+    entry: Entry,
+    bytes: &[u8],
+    full: bool,
+) -> Result<String, AllocError> {
+    if let Some(entry) = in_part(entry) {
+        return record_text(alloc, place, entry, bytes, full);
+    }
+    let (name, line) = place;
+    let mut text = format!(in alloc;
+        "{name}:{line}: received{}, sent before the other capture begins\n",
+        fate_of(entry)
+    )?;
+    put_bytes(alloc, &mut text, bytes, full)?;
+    put_layers(alloc, &mut text, bytes)?;
+    Ok(text)
+}
+
+// The record with its hint counted from 0 on; `None` of a receipt of a unit of before.
+fn in_part(entry: Entry) -> Option<Entry> {
+    match entry {
+        Entry::Received { hint: 0, .. } => None,
+        Entry::Received { fate, hint } => Some(Entry::Received {
+            fate,
+            hint: hint - 1,
+        }),
+        _ => Some(entry),
+    }
+}
+
+fn fate_of(entry: Entry) -> &'static str {
+    match entry {
+        Entry::Received { fate, .. } => fate_words(fate),
+        _ => "",
+    }
 }
 
 // Appends what was done with a unit.

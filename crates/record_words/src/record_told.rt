@@ -10,9 +10,11 @@ use ddcmp_msg::Reading;
 use std::fmt::{self, Formatter, Write};
 
 /// A record: of a user's record its words, else what its bytes are read as: a unit, or a packet that is never sent. The bytes are spelled already.
+/// Where `before` is set, a receipt is one of a unit that was sent before the other capture begins, and its hint is null.
 #[derive(Clone, Copy)]
 pub struct RecordTold<'d, 'a> {
     pub entry: Entry,
+    pub before: bool,
     pub digits: &'d str,
     pub bytes: &'a [u8],
     pub reading: Reading<'a>,
@@ -23,6 +25,9 @@ impl fmt::Display for RecordTold<'_, '_> {
         let RecordTold { entry, digits, .. } = *self;
         match entry {
             Entry::Sent => f.write_str("\"s\", ")?,
+            Entry::Received { fate, .. } if self.before => {
+                write!(f, "\"{}\", \"hint\": null, ", letter_of(fate))?
+            }
             Entry::Received { fate, hint } => {
                 write!(f, "\"{}\", \"hint\": {hint}, ", letter_of(fate))?
             }

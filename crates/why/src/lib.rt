@@ -25,6 +25,7 @@ mod unmarked_word;
 mod why_text;
 
 pub use accusation::{Accusation, Excuse};
+pub use accused_row::AccusedRow;
 pub use checks::{Check, CheckObject, check_rows};
 pub use digits::Fronts;
 pub use edits::{EditLine, EditPlace, EditsTried, FEW_RECORDS, RecorderRow, put_edit};
@@ -33,6 +34,7 @@ pub use explanations::{Explanation, explanation_of};
 pub use front_texts::FrontTexts;
 pub use other_node::OtherNode;
 pub use past::LinkPast;
-pub use queued::QueuedAnswer;
+pub use queued::{QueuedAnswer, Whole};
 pub use refused_record::Beside;
+pub use rules::put_rule;
 pub use why_text::{AlsoAsked, Refusal, Shown, why_json, why_rows};

@@ -1,5 +1,7 @@
 -- One side along the text of its capture: which records were read, and which of them were made.
 use Rattle.std.specs.Prelude.{◌≡◌, ℕ, ◌+◌, ◌≤◌, Bool, true, false, List, [], ◌∷◌, ◌++◌, length, Option}
+use Rattle.capture.specs.declared.fault.CaptureFault.{CaptureFault}
+use Rattle.capture.specs.declared.fault.CaptureFault.TheVariants as faults
 use Rattle.capture.specs.declared.limit.TheConstants.{MAX_RECORDS}
 use Rattle.capture.specs.declared.phase.Phase.TheVariants.{Reading}
 use Rattle.capture.specs.Reader.{CaptureState}
@@ -23,7 +25,7 @@ use Rattle.part_pair.specs.declared.course.Course.{Course}
 use Rattle.part_pair.specs.declared.turn.AfterTurn.{AfterTurn}
 use Rattle.part_pair.specs.declared.turn.AfterTurn.TheVariants.{GoesOn, Ends}
 use Rattle.part_pair.specs.Courses.{EndingInPair, EndsWith, JudgedInPair}
-use Rattle.part_pair.specs.Judged.{IsSoFar, AreRefusedFor}
+use Rattle.part_pair.specs.Judged.{IsSoFar, AreRefusedFor, IsFaultyCapture}
 use Rattle.part_pair.specs.Sides.{Goes, Stops, step_in_pair, with_record}
 use Rattle.part_pair.specs.Sides as sides
 use Rattle.part_pair.specs.inner.Ends.{side_of}
@@ -98,6 +100,13 @@ pub record IsRead (t : Track) : Type 0 where
   pub few : length (records_read t) ≤ MAX_RECORDS
   pub counts : t.course.side.end.counts ≡ counts_of t.made
   pub low : AreAllLow (1024 + length t.made) t.course.side.end.station
+
+-- what a reader's fault says of its text
+abbrev pub IsFaultOfText : Option (List ℕ) → CaptureFault → Type 0
+IsFaultOfText text (faults.Departs kind line) = IsFaultyCapture text kind line
+IsFaultOfText text faults.Read = Unit {0}
+IsFaultOfText text faults.OutOfMemory = Unit {0}
+IsFaultOfText text faults.Failed = Unit {0}
 
 -- ---- what became of a record
 

@@ -1,16 +1,17 @@
-use Rattle.std.proofs.Common.{ℕ, ◌+◌, refl, subst, ◌∙◌, arith}
+use Rattle.std.proofs.Common.{ℕ, refl, subst, ◌∙◌, arith}
 use Rattle.wire_base.specs.Tally.{tally_faults, tally_lent}
-use Rattle.capture.specs.Departing.{RecordDeparts}
-use Rattle.capture.specs.Lines.{to_come}
-use Rattle.capture.specs.Opening.{EitherHeadDeparts}
 use Rattle.capture_record.specs.Entries.{record_with}
 use Rattle.capture.specs.Faulty.{CountsReads, is_read_fault}
-use Rattle.part_judge.proofs.PartWalk.{PartLaws, fault_says, hint_low, made_on, passed, refused_at, room, started}
+use Rattle.part_judge.proofs.PartWalk.{PartLaws, faulty, hint_low, made_on, no_head, passed, refused_at, room, started, whole_head}
 use Rattle.part_judge.proofs.judging_part.judge_part.Goals as goal
 
 pub returns-in-Err-clause-judged : goal.returns-in-Err-clause-judged
 returns-in-Err-clause-judged g c =
-    fault_says EitherHeadDeparts 1 (g.R.Read.remaining (tally_lent c.args.a.now)) c.in-Err.fault c.in-Err.ensures.opens
+    no_head (g.R.Read.remaining (tally_lent c.args.a.now)) c.in-Err.fault c.in-Err.ensures.opens
+
+pub returns-in-Ok-Whole-clause-judged : goal.returns-in-Ok-Whole-clause-judged
+returns-in-Ok-Whole-clause-judged g c =
+    whole_head (g.R.Read.remaining (tally_lent c.args.a.now)) _ _ (rw c.in-Ok-Whole.field-0-is at c.in-Ok-Whole.ensures.opens)
 
 pub make-requires-clause-hint : goal.make-requires-clause-hint
 make-requires-clause-hint g c =
@@ -63,9 +64,7 @@ returns-in-Ok-None-clause-reads g c = c.in-Ok-None.ensures.reads ∙ c.loop-numb
 pub returns-in-Err-advance-clause-judged : goal.returns-in-Err-advance-clause-judged
 returns-in-Err-advance-clause-judged g c =
     let h = c.loop-number.invariant.0 in
-    let capture = c.loop-number.capture in
-    fault_says (RecordDeparts capture.form capture.records) (capture.records + 2)
-    (to_come capture.unread (g.R.Read.remaining (tally_lent c.loop-number.a))) c.in-Err-advance.fault (c.in-Err-advance.ensures.gives h.reading).0
+    faulty _ _ c.loop-number.capture c.loop-number.end c.loop-number.number h c.in-Err-advance.fault (c.in-Err-advance.ensures.gives h.reading).0
 
 pub returns-in-Err-advance-clause-reads : goal.returns-in-Err-advance-clause-reads
 returns-in-Err-advance-clause-reads g c =

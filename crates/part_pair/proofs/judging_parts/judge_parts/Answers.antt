@@ -2,7 +2,9 @@ use Rattle.std.proofs.Common.{◌+◌, length, [], refl, ◌∙◌, arith}
 use Rattle.wire_base.specs.Tally.{tally_lent}
 use Rattle.capture.specs.Lines.{to_come}
 use Rattle.part_pair.specs.inner.Tracks.{along_b, both}
+use Rattle.wire_base.specs.declared.side.Side.TheVariants.{A, B}
 use Rattle.part_pair.proofs.Answered.{answered, few, room}
+use Rattle.part_pair.proofs.Readings.{answered_fault}
 use Rattle.part_pair.proofs.UnderWay.{started}
 use Rattle.part_pair.proofs.judging_parts.judge_parts.Goals as goal
 
@@ -61,3 +63,21 @@ pub unreachable-requires : goal.unreachable-requires
 unreachable-requires g c =
     let h = c.loop.invariant.0 in
     omega (arith, h.count, few _ _ _ _ h.under_way.read_a, few _ _ _ _ h.under_way.read_b, c.loop-test.false)
+
+pub returns-in-Err-clause-answer : goal.returns-in-Err-clause-answer
+returns-in-Err-clause-answer g c =
+    rw c.side_fault.ensures
+    (answered_fault A (g.R.Read.remaining (tally_lent c.args.a.now)) (g.S.Read.remaining (tally_lent c.args.b.now)) c.in-Err.fault
+    c.in-Err.ensures.fault)
+
+pub returns-in-Err-open-clause-answer : goal.returns-in-Err-open-clause-answer
+returns-in-Err-open-clause-answer g c =
+    rw c.side_fault-in-Err-open.ensures
+    (answered_fault B (g.R.Read.remaining (tally_lent c.args.a.now)) (g.S.Read.remaining (tally_lent c.args.b.now)) c.in-Err-open.fault
+    c.in-Err-open.ensures.fault)
+
+pub returns-in-Err-turn-clause-answer : goal.returns-in-Err-turn-clause-answer
+returns-in-Err-turn-clause-answer g c =
+    let h = c.loop.invariant.0 in
+    c.in-Err-turn.ensures.fault (g.R.Read.remaining (tally_lent c.args.a.now)) (g.S.Read.remaining (tally_lent c.args.b.now)) h.made_a h.made_b
+    h.under_way.read_a h.under_way.read_b

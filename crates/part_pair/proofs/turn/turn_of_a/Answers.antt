@@ -1,10 +1,10 @@
 use Rattle.std.proofs.Common.{◌+◌, length, true, false, sym, subst}
-use Rattle.std.proofs.lemmas.Result.{IfOk-weaker}
+use Rattle.std.proofs.lemmas.Result.{IfErr-weaker, IfOk-weaker}
 use Rattle.wire_base.specs.Tally.{tally_lent}
 use Rattle.capture.specs.Lines.{to_come}
 use Rattle.capture.specs.Reader.{CaptureState}
 use Rattle.part_pair.specs.declared.course.Course.{Course}
-use Rattle.part_pair.specs.inner.Tracks.{HasMadeOne, IsUnderWay, Stands, along_b, both}
+use Rattle.part_pair.specs.inner.Tracks.{HasMadeOne, IsRead, IsUnderWay, Stands, along, along_b, both}
 use Rattle.part_pair.proofs.UnderWay.{made_by_a, stops_a}
 use Rattle.part_pair.proofs.turn.turn_of_a.Goals as goal
 
@@ -47,3 +47,23 @@ returns-in-Ok-Ended-clause-turn g c =
     (subst (λ (b : Course). IsUnderWay (both text_a c.args.a.now come_a (along_b text_b b
     (to_come b.capture.unread (g.S.Read.remaining (tally_lent c.args.reader_b.now))))) made_a made_b) (sym m.same_other) under)))
     c.turn_behind_a-in-Ok-Ended.ensures.turn
+
+pub returns-in-Ok-Blocked-clause-fault : goal.returns-in-Ok-Blocked-clause-fault
+returns-in-Ok-Blocked-clause-fault g c =
+    let m = rw c.in-Ok-Blocked.field-0-is at c.in-Ok-Blocked.ensures in
+    IfErr-weaker c.turn_behind_a.result _ _
+    (λ fault is text_a text_b made_b read.
+    is text_a text_b made_b
+    (subst (λ (b : Course). IsRead (along text_b b (to_come b.capture.unread (g.S.Read.remaining (tally_lent c.args.reader_b.now))) made_b))
+    (sym m.same_other) read))
+    c.turn_behind_a.ensures.fault
+
+pub returns-in-Ok-Ended-clause-fault : goal.returns-in-Ok-Ended-clause-fault
+returns-in-Ok-Ended-clause-fault g c =
+    let m = rw c.in-Ok-Ended.field-0-is at c.in-Ok-Ended.ensures in
+    IfErr-weaker c.turn_behind_a-in-Ok-Ended.result _ _
+    (λ fault is text_a text_b made_b read.
+    is text_a text_b made_b
+    (subst (λ (b : Course). IsRead (along text_b b (to_come b.capture.unread (g.S.Read.remaining (tally_lent c.args.reader_b.now))) made_b))
+    (sym m.same_other) read))
+    c.turn_behind_a-in-Ok-Ended.ensures.fault

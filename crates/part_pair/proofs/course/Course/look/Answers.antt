@@ -3,7 +3,7 @@ use Rattle.pair_judge.proofs.Courses.{GrowingLaws}
 use Rattle.part_judge.proofs.PartWalk.{PartLaws}
 use Rattle.part_pair.specs.declared.course.Ahead.{Ahead}
 use Rattle.part_pair.specs.inner.Tracks.{MayReadAhead}
-use Rattle.part_pair.proofs.Readings.{ended, read_on}
+use Rattle.part_pair.proofs.Readings.{ended, faulty, read_on}
 use Rattle.part_pair.proofs.course.Course.look.Goals as goal
 
 pub returns-in-Ok-Some-clause-read : goal.returns-in-Ok-Some-clause-read
@@ -14,7 +14,7 @@ returns-in-Ok-Some-clause-read g c = λ text made read.
     let part : PartLaws = record { opened = v.opened; one_more = v.one_more; ended = v.ended } in
     let reading = subst (λ (a : Ahead). MayReadAhead a c.args.self.now.capture) c.in-Unread.is c.requires in
     let gives = rw c.in-Ok-Some.field-0-is at c.in-Ok-Some.ensures.gives reading in
-    read_on whole part text _ _ c.args.self.now _ made c.in-Unread.is refl c.in-Ok-Some.ensures.head.0 c.in-Ok-Some.ensures.head.1 read _ refl gives
+    read_on text _ c.args.self.now made c.in-Unread.is read whole part _ _ refl c.in-Ok-Some.ensures.head.0 c.in-Ok-Some.ensures.head.1 _ refl gives
 
 pub returns-in-Ok-None-clause-read : goal.returns-in-Ok-None-clause-read
 returns-in-Ok-None-clause-read g c = λ text made read.
@@ -24,4 +24,9 @@ returns-in-Ok-None-clause-read g c = λ text made read.
     let part : PartLaws = record { opened = v.opened; one_more = v.one_more; ended = v.ended } in
     let reading = subst (λ (a : Ahead). MayReadAhead a c.args.self.now.capture) c.in-Unread.is c.requires in
     let gives = rw c.in-Ok-None.field-0-is at c.in-Ok-None.ensures.gives reading in
-    ended whole part text _ _ c.args.self.now _ made c.in-Unread.is refl c.in-Ok-None.ensures.head.0 c.in-Ok-None.ensures.head.1 read refl gives
+    ended text _ c.args.self.now made c.in-Unread.is read whole part _ _ refl c.in-Ok-None.ensures.head.0 c.in-Ok-None.ensures.head.1 refl gives
+
+pub returns-in-Err-clause-fault : goal.returns-in-Err-clause-fault
+returns-in-Err-clause-fault g c = λ text made read.
+    let reading = subst (λ (a : Ahead). MayReadAhead a c.args.self.now.capture) c.in-Unread.is c.requires in
+    faulty text _ c.args.self.now made c.in-Unread.is read c.in-Err.fault (c.in-Err.ensures.gives reading).0

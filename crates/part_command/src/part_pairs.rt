@@ -152,8 +152,8 @@ impl PairAsked<'_> {
     }
 }
 
-// From which line on a side is judged alone, as a row with its LF.
-fn alone_row(alloc: Global, alone: JudgedAlone) -> Result<Vec<u8>, AllocError> {
+/// From which line on a side is judged alone, as a row with its LF. Fails for want of memory alone.
+pub fn alone_row(alloc: Global, alone: JudgedAlone) -> Result<Vec<u8>, AllocError> {
     let JudgedAlone { side, place } = alone;
     let line = u128::from(place) + 2;
     let other = side.other();
