@@ -211,14 +211,7 @@ impl<R: Files + AllocGlobal, O: Write, E: Write> Program<'_, '_, '_, R, O, E> {
         let wanted = Wanted::by_name(Named::B, path_b);
         let mut dest = written(self.rt, &beside, wanted, self.err)?;
         let mut src = Tally::new(src);
-        let status = convert_to(
-            self.rt.alloc(),
-            to,
-            &mut src,
-            &mut dest,
-            self.out,
-            self.err,
-        );
+        let status = convert_to(self.rt.alloc(), to, &mut src, &mut dest, self.out, self.err);
         Ok(self.advised(status, path_a, &mut src.into_inner()))
     }
 
