@@ -76,9 +76,9 @@ impl Numbers {
         match read_unit(unit) {
             Reading::Sound(message) => {
                 if side == self.accused.side {
-                    self.send(&message);
+                    self.send(message);
                 } else {
-                    self.hear(&message);
+                    self.hear(message);
                 }
             }
             _ => {}
@@ -114,12 +114,12 @@ impl Numbers {
     }
 
     // The side sent this message.
-    fn send(&mut self, message: &Message<'_>) {
+    fn send(&mut self, message: Message<'_>) {
         match message {
             Message::Strt { .. } | Message::Stack { .. } => self.start(),
-            Message::Data { num, body, .. } => self.send_data(*num, block_check(body)),
+            Message::Data { num, body, .. } => self.send_data(num, block_check(body)),
             Message::Rep { num, .. } => {
-                if self.skipped.is_some() && *num != self.highest {
+                if self.skipped.is_some() && num != self.highest {
                     self.tell(Finding::NotShown);
                 }
             }
@@ -133,8 +133,10 @@ impl Numbers {
         }
         self.highest = 0;
         self.last = 0;
-        for check in &mut self.checks {
-            *check = None;
+        for number in 0..NUMBERS {
+            if let Some(kept) = self.checks.get_mut(number) {
+                *kept = None;
+            }
         }
     }
 
@@ -197,15 +199,15 @@ impl Numbers {
     }
 
     // The other side sent this message.
-    fn hear(&mut self, message: &Message<'_>) {
+    fn hear(&mut self, message: Message<'_>) {
         let Some(skipped) = self.skipped else {
             return;
         };
         match message {
             Message::Strt { .. } | Message::Stack { .. } => self.tell(Finding::NotShown),
-            Message::Data { resp, .. } => self.acknowledge(skipped, *resp),
-            Message::Ack { resp, .. } => self.acknowledge(skipped, *resp),
-            Message::Nak { resp, .. } => self.acknowledge(skipped, *resp),
+            Message::Data { resp, .. } => self.acknowledge(skipped, resp),
+            Message::Ack { resp, .. } => self.acknowledge(skipped, resp),
+            Message::Nak { resp, .. } => self.acknowledge(skipped, resp),
             Message::Rep { .. } => {}
         }
     }
