@@ -130,6 +130,8 @@ def named():
            unexplained('a', 5, 9, '20 WrongSegment', at_fault('a', 7, 11)))
     yield ('a unit did not pass: both sides seem to be wrong', to_and_fro().without(6).text(),
            unexplained('b', 2, 8, '8 WrongResponse', both(8)))
+    yield ('a message that can\'t be read, and an acknowledgement of it: the message alone is named',
+           linked().say('a', '0202000100').say('b', '04010002000180').text(), unexplained('a', 4, 8, '17 BadNsp', at_fault('a', 4, 8)))
 
 
 # ---- recordings in which a unit may be missing

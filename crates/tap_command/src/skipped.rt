@@ -1,6 +1,7 @@
-//! Whether a number that the accused unit skips was sent all the same, by what passed later.
+//! What an accused unit is by itself, and whether a number that it skips was sent all the same, by what passed later.
 
 use ddcmp_msg::{Message, Reading, read_unit};
+use dna_packet::{Packet, read_nsp, read_packet};
 use framer::Kind;
 use std::alloc::{AllocError, Global};
 use wire_base::{Side, block_check};
@@ -16,6 +17,8 @@ const HALF: u8 = 128;
 pub(crate) enum Finding {
     /// Nothing yet.
     Nothing,
+    /// The accused unit can't be read: it is wrong by itself.
+    Unreadable,
     /// The number that the accused unit skips was sent.
     Shown,
     /// None is skipped, or what came later does not go with one that did not pass; or a station was started since.
@@ -26,6 +29,7 @@ pub(crate) enum Finding {
 #[derive(Drop)]
 pub(crate) struct Numbers {
     accused: Passed,
+    line_alone: bool,
     // how many units of the side passed
     units: u64,
     // the highest number that passed, and the last one
@@ -51,9 +55,14 @@ struct Skipped {
 
 impl Numbers {
     /// Nothing passed yet; this unit is accused. `AllocError`: there is no memory for it.
-    pub(crate) fn new(alloc: Global, accused: Passed) -> Result<Numbers, AllocError> {
+    pub(crate) fn new(
+        alloc: Global,
+        accused: Passed,
+        line_alone: bool,
+    ) -> Result<Numbers, AllocError> {
         Ok(Numbers {
             accused,
+            line_alone,
             units: 0,
             highest: 0,
             last: 0,
@@ -84,7 +93,7 @@ impl Numbers {
             _ => {}
         }
         if side == self.accused.side {
-            self.count();
+            self.count(unit);
         }
         if self.is_shown() {
             self.tell(Finding::Shown);
@@ -98,10 +107,14 @@ impl Numbers {
         }
     }
 
-    // A unit of the side passed. The accused one has to skip a number.
-    fn count(&mut self) {
-        if self.units == self.accused.unit && self.skipped.is_none() {
-            self.tell(Finding::NotShown);
+    // This unit of the side passed. The accused one has to skip a number.
+    fn count(&mut self, unit: &[u8]) {
+        if self.units == self.accused.unit {
+            if is_unreadable(unit, self.line_alone) {
+                self.tell(Finding::Unreadable);
+            } else if self.skipped.is_none() {
+                self.tell(Finding::NotShown);
+            }
         }
         self.units = self.units.saturating_add(1);
     }
@@ -221,5 +234,27 @@ impl Numbers {
                 ..skipped
             });
         }
+    }
+}
+
+// Whether a unit, or what is in it, can't be read.
+fn is_unreadable(unit: &[u8], line_alone: bool) -> bool {
+    match read_unit(unit) {
+        Reading::Sound(Message::Data { body, .. }) => !line_alone && holds_unreadable(body),
+        Reading::Sound(_) => false,
+        Reading::HeaderBad | Reading::DataBad | Reading::Malformed(_) => true,
+    }
+}
+
+fn holds_unreadable(packet: &[u8]) -> bool {
+    let Ok(packet) = read_packet(packet) else {
+        return true;
+    };
+    if packet.returned() {
+        return false;
+    }
+    match packet {
+        Packet::Data { nsp, .. } => read_nsp(nsp).is_err(),
+        Packet::Control(_) => false,
     }
 }

@@ -16,7 +16,8 @@ use wire_base::{Side, Tally};
 use wire_tap::{Accused, Passed, TapFault, find_accused};
 use wire_text::{MAX_PIECES, WireReader};
 
-/// Which units no right node sent, as far as that is known, and whether one is missing before the only one of them. `Err`: a fault, which was told.
+/// Which units no right node sent, as far as that is known, and whether one is missing before the only one of them. Where both sides are accused, and
+/// the first unit can't be read, it is the only one: who took it for another may be accused of what follows. `Err`: a fault, which was told.
 pub(crate) fn charged_by<R: Files + AllocGlobal, E: Write>(
     rt: &R,
     paths: TapPaths<'_>,
@@ -27,46 +28,56 @@ pub(crate) fn charged_by<R: Files + AllocGlobal, E: Write>(
         Ok(accused) => accused,
         Err(fault) => return Err(tell_tap_fault(rt.alloc(), fault, err)),
     };
-    let Some(only) = only_one(accused) else {
+    let Some(first) = first_one(accused) else {
         return Ok(Charged {
             accused,
             missing: None,
         });
     };
     let wire = opened_plain(rt, Wanted::by_path(Named::Wire, paths.wire), err)?;
-    match may_be_missing(rt.alloc(), &mut Tally::new(wire), only) {
-        Ok(true) => Ok(Charged {
-            accused,
-            missing: Some(only),
-        }),
-        Ok(false) => Ok(Charged {
-            accused,
-            missing: None,
-        }),
+    match finding_on(rt.alloc(), &mut Tally::new(wire), first, paths.line_alone) {
+        Ok(finding) => Ok(charged_with(accused, first, finding)),
         Err(fault) => Err(tell_tap_fault(rt.alloc(), fault, err)),
     }
 }
 
-// The unit that is accused, if only one is.
-fn only_one(accused: Accused) -> Option<Passed> {
-    match (accused.a, accused.b) {
-        (Some(a), None) => Some(a.passed),
-        (None, Some(b)) => Some(b.passed),
+// What was found of the first unit is taken into account.
+fn charged_with(accused: Accused, first: Passed, finding: Finding) -> Charged {
+    let is_only = accused.a.is_none() || accused.b.is_none();
+    let accused = match (finding, first.side) {
+        (Finding::Unreadable, Side::A) => Accused { b: None, ..accused },
+        (Finding::Unreadable, Side::B) => Accused { a: None, ..accused },
+        _ => accused,
+    };
+    let missing = match finding {
+        Finding::Shown if is_only => Some(first),
         _ => None,
+    };
+    Charged { accused, missing }
+}
+
+// The first unit that is accused.
+fn first_one(accused: Accused) -> Option<Passed> {
+    match (accused.a, accused.b) {
+        (Some(a), Some(b)) if b.passed.line < a.passed.line => Some(b.passed),
+        (Some(a), _) => Some(a.passed),
+        (None, Some(b)) => Some(b.passed),
+        (None, None) => None,
     }
 }
 
-// Whether one unit may be missing before this one, by all that passed.
-fn may_be_missing<W: Read>(
+// What is found of this accused unit, by all that passed.
+fn finding_on<W: Read>(
     alloc: Global,
     wire: &mut Tally<W>,
     accused: Passed,
-) -> Result<bool, TapFault> {
+    line_alone: bool,
+) -> Result<Finding, TapFault> {
     let mut reader = match WireReader::open(alloc, wire) {
         Ok(reader) => reader,
         Err(fault) => return Err(tap_fault(fault)),
     };
-    let Ok(mut line) = Line::new(alloc, accused) else {
+    let Ok(mut line) = Line::new(alloc, accused, line_alone) else {
         return Err(TapFault::OutOfMemory);
     };
     for _ in 0..=MAX_PIECES {
@@ -79,7 +90,7 @@ fn may_be_missing<W: Read>(
             break;
         }
     }
-    Ok(line.numbers.told() == Finding::Shown)
+    Ok(line.numbers.told())
 }
 
 fn tap_fault(fault: CaptureFault) -> TapFault {
@@ -99,11 +110,11 @@ struct Line {
 }
 
 impl Line {
-    fn new(alloc: Global, accused: Passed) -> Result<Line, AllocError> {
+    fn new(alloc: Global, accused: Passed, line_alone: bool) -> Result<Line, AllocError> {
         Ok(Line {
             a: Framer::new(alloc)?,
             b: Framer::new(alloc)?,
-            numbers: Numbers::new(alloc, accused)?,
+            numbers: Numbers::new(alloc, accused, line_alone)?,
         })
     }
 
