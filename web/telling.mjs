@@ -9,7 +9,7 @@ export const printed = answer => decode(answer.out) + decode(answer.err);
 const asSentence = line => `${line[0].toUpperCase()}${line.slice(1)}.`;
 
 // The lines of `tap` on whom it accuses, under which conditions, or on what shows that nobody can be.
-const ACCUSES = /^(?:side [ab] is (?:at fault|not accused) |[ab]'s Init says: |side [ab], unit |both sides are accused: |.*, so neither node is accused).*$/gm;
+const ACCUSES = /^(?:side [ab] is (?:at fault|not accused) |[ab]'s Init says: |side [ab], unit |.*, so neither node is accused).*$/gm;
 
 // What it means that `tap` found no explanation.
 function unexplained(text) {

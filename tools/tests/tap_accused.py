@@ -6,6 +6,7 @@ import random
 import re
 import tempfile
 
+from captures import nak_of, with_check
 from tests.nodes import small_right_nodes as right
 from tests.nodes.bugs import NO_BUGS
 from tests.nodes.small_node import Node
@@ -13,7 +14,7 @@ from tests.nodes.small_sessions import Stuck
 from tests.passed import wire_text
 from tests.program import IS_QUICK, TOP, share
 from tests.tap_texts import ANSWERS, STRT, UP, data_of, packet_of, scripts, text_of
-from tests.tap_words import (AT_FAULT, BOTH, BROKEN, DISCARDED, NOBODY, at_fault, discarded, fault_of_answer, spared, unexplained,
+from tests.tap_words import (AT_FAULT, BROKEN, DISCARDED, NOBODY, at_fault, both, discarded, fault_of_answer, missing, spared, unexplained,
                              unless)
 
 CALL, CONFIRM, ACKNOWLEDGED = '18000001000102f401', '28010002000102f40100', '04020001000080'
@@ -128,7 +129,44 @@ def named():
     yield ('a segment out of order, and then a number: the number alone is named', line.text(),
            unexplained('a', 5, 9, '20 WrongSegment', at_fault('a', 7, 11)))
     yield ('a unit did not pass: both sides seem to be wrong', to_and_fro().without(6).text(),
-           unexplained('b', 2, 8, '8 WrongResponse', at_fault('a', 4, 9), at_fault('b', 2, 8), BOTH))
+           unexplained('b', 2, 8, '8 WrongResponse', both(8)))
+    yield ('a message that can\'t be read, and an acknowledgement of it: the message alone is named',
+           linked().say('a', '0202000100').say('b', '04010002000180').text(), unexplained('a', 4, 8, '17 BadNsp', at_fault('a', 4, 8)))
+
+
+# ---- recordings in which a unit may be missing
+
+def went_again(*places):
+    """Segments 1 to 3 of side a, in units 4 to 6, are lost, and go again after a REP and its NAK; but the units at these places did not pass."""
+    line = linked()
+    for number in range(1, 4):
+        line.say('a', segment('a', number))
+    lost = line.units[6:]
+    line.units += [('a', with_check(bytes([5, 3, 0, 0, 5, 1])).hex()), ('b', nak_of(3, 2)), *lost]
+    return line.say('b', '04010002000380').without(*places)
+
+
+def cut(line, place):
+    """The line up to this place."""
+    line.units = line.units[:place]
+    return line
+
+
+def misnumbered(line):
+    """Segment 2 of side a has the number of the next one when it goes first."""
+    line.units[7] = 'a', data_of(5, 1, packet_of('a', segment('a', 2)))
+    return line
+
+
+def may_be_missing():
+    """Cases, likewise: a number is skipped, and what passed later shows that it was there, or doesn't."""
+    yield 'nothing is missing', went_again().text(), 'accepted\n'
+    yield 'a number that goes later', went_again(7).text(), unexplained('a', 5, 9, '7 WrongNumber', missing(9))
+    yield 'a number that is acknowledged later', went_again(12).text(), unexplained('a', 9, 14, '7 WrongNumber', missing(14))
+    for name, line in (('nothing more', cut(went_again(7), 8)), ('only the skipped number later', cut(went_again(7), 12)),
+                       ('the number at once with other data', misnumbered(went_again())),
+                       ('the number with other data', misnumbered(went_again(8)))):
+        yield 'a number, and ' + name, line.text(), unexplained('a', 5, 9, '7 WrongNumber', at_fault('a', 5, 9))
 
 
 # ---- recordings that show that they are not whole
@@ -180,7 +218,7 @@ def broken():
         'a', 4, 8, '7 WrongNumber', at_fault('a', 4, 8), skipped(size, 'b', 'b', 3, 11, ' of anything else')), none, none)
 
 
-CASES = [*((*case, (0, 0), (0, 0)) for case in (*excepted(), *spares(), *named())), *broken()]
+CASES = [*((*case, (0, 0), (0, 0)) for case in (*excepted(), *spares(), *named(), *may_be_missing())), *broken()]
 
 
 def faults_of_accused(tap):

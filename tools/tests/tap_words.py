@@ -3,7 +3,6 @@ import re
 
 PREMISE = 'this holds only if every unit sent passed this point once, undamaged and in order, starting before the first STRT\n'
 NOBODY = 'no consistent explanation was found; this alone accuses neither node\n'
-BOTH = 'both sides are accused: the recording is more likely at fault than both nodes\n'
 RESTS = 'ddcap why shows the unit, but whom it accuses depends on what tap assumed\n'
 APART = 'each side is explained by itself; this accuses neither node\n'
 
@@ -45,6 +44,16 @@ def spared(side, unit, line, node):
     """That a side is not accused, since the packet names this node."""
     return ('side %s is not accused of its unit %d (line %d): %s is another node; if the line leads to a router, use tap --line\n'
             % (side, unit, line, node))
+
+
+def missing(line):
+    """That nobody is accused, since a unit may be missing before this line."""
+    return 'a unit may be missing before line %d, so neither node is accused: record again\n' % line
+
+
+def both(line):
+    """The same where both sides would be at fault."""
+    return 'the recording is more likely at fault than both nodes, and ' + missing(line)
 
 
 def unexplained(side, unit, line, reason, *lines):

@@ -57,6 +57,22 @@ pub fn departure_rows<R: Read + Seek>(
     Ok(Some(faulty_line_rows(alloc, line)?))
 }
 
+/// Whether the line with this number, counted from 1, is the last one of the file and has no LF; not where the file can't be read again. `None` where a
+/// read fails. `AllocError`: there is no memory for the line.
+pub fn is_cut_off<R: Read + Seek>(
+    alloc: Global,
+    file: &mut R,
+    number: u64,
+) -> Result<Option<bool>, AllocError> {
+    if file.rewind().is_err() {
+        return Ok(Some(false));
+    }
+    let Some(kept) = kept_line(alloc, file, number)? else {
+        return Ok(None);
+    };
+    Ok(Some(!kept.has_lf && !kept.bytes.as_slice().is_empty()))
+}
+
 // The first bytes of the text; `None` where a read fails.
 fn first_bytes<R: Read>(alloc: Global, file: &mut R) -> Result<Option<Vec<u8>>, AllocError> {
     let mut first = Vec::new(alloc);

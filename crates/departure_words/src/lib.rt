@@ -10,6 +10,6 @@ mod text_scan;
 mod wire_scan;
 
 pub use faulty_line::{FaultyLine, TextKind, faulty_line_rows};
-pub use kept_line::departure_rows;
+pub use kept_line::{departure_rows, is_cut_off};
 pub use packets::{advised, advised_pair};
 pub use shell_words::{put_word, without_ending};

@@ -4,6 +4,7 @@
 
 mod departure;
 mod packet_capture;
+mod skipped;
 pub mod tap;
 mod tap_accused;
 mod tap_apart;

@@ -1,5 +1,6 @@
 //! What `why` adds below the line of a fault: where a line departs from the format of captures, and what would be right there.
 
+use crate::cut_off::{NoRow, end_row, pair_row};
 use capture::{CaptureFault, Departure};
 use departure_words::{TextKind, departure_rows};
 use pair_judge::{JudgeFault, TextFault};
@@ -32,10 +33,27 @@ pub fn explain_departure_of_pair<A: Read + Seek, B: Read + Seek, E: Write>(
     let Err(JudgeFault::Capture { side, fault }) = judged else {
         return FAULTY;
     };
-    match (side, fault) {
-        (_, TextFault::Read) => print_failed_read(err, side),
-        (Side::A, TextFault::Departs { kind, line }) => explain(alloc, side, a, kind, line, err),
-        (Side::B, TextFault::Departs { kind, line }) => explain(alloc, side, b, kind, line, err),
+    let (kind, line) = match fault {
+        TextFault::Read => return print_failed_read(err, side),
+        TextFault::Departs { kind, line } => (kind, line),
+    };
+    let status = match side {
+        Side::A => explain(alloc, side, a, kind, line, err),
+        Side::B => explain(alloc, side, b, kind, line, err),
+    };
+    if status != FAULTY {
+        return status;
+    }
+    print_row(pair_row(alloc, layers, a, b, (side, line)), err)
+}
+
+// Prints the answer on the lines before those that were cut off, if there is one, and answers the status.
+fn print_row<E: Write>(row: Result<Option<String>, NoRow>, err: &mut Tally<E>) -> u8 {
+    match row {
+        Ok(Some(row)) => print(err, row.as_bytes(), FAULTY),
+        Ok(None) => FAULTY,
+        Err(NoRow::Read(side)) => print_failed_read(err, side),
+        Err(NoRow::Memory) => FAULTY,
     }
 }
 
@@ -51,7 +69,13 @@ pub fn explain_departure_of_end<A: Read + Seek, E: Write>(
     }
     let judged = judge_end_over(alloc, layers, &mut Tally::new(&mut *a));
     match judged {
-        Err(CaptureFault::Departs { kind, line }) => explain(alloc, Side::A, a, kind, line, err),
+        Err(CaptureFault::Departs { kind, line }) => {
+            let status = explain(alloc, Side::A, a, kind, line, err);
+            if status != FAULTY {
+                return status;
+            }
+            print_row(end_row(alloc, layers, a, line), err)
+        }
         Err(CaptureFault::Read) => print_failed_read(err, Side::A),
         _ => FAULTY,
     }

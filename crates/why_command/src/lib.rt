@@ -3,6 +3,7 @@
 #![tactic(auto)]
 
 pub mod all_why;
+mod cut_off;
 pub mod departure;
 pub mod less_too;
 pub mod why_pair;
