@@ -1,13 +1,13 @@
 -- Where there is no memory for the printed text, nothing is read or written.
-use Rattle.std.proofs.Common.{Err, refl, sym}
+use Rattle.std.proofs.Common.{Err, refl}
 use Rattle.std.proofs.KnownBytes.{Keeps-refl}
 use Rattle.capture.specs.declared.fault.ConvertFault.TheVariants.{NotInFormat, Write, OutOfMemory}
 use Rattle.text_commands.proofs.convert.convert_to.Goals as goal
 
 pub returns-in_default : goal.returns-in_default
-returns-in_default g c = λ format is. record {
+returns-in_default g c = record {
   answer = Err OutOfMemory;
-  converts = Keeps-refl _;
+  restates = Keeps-refl _;
   lines = tt;
   reads = refl;
   writes = refl;
@@ -15,9 +15,9 @@ returns-in_default g c = λ format is. record {
 }
 
 pub returns-in-Write : goal.returns-in-Write
-returns-in-Write g c = λ format is. record {
+returns-in-Write g c = record {
   answer = Err Write;
-  converts = rw c.in-Write.is at c.in-Err.ensures.converts format is;
+  restates = rw c.in-Write.is at c.in-Err.ensures.restates;
   lines = tt;
   reads = rw c.in-Write.is at c.in-Err.ensures.reads;
   writes = rw c.in-Write.is at c.in-Err.ensures.writes;
@@ -25,11 +25,11 @@ returns-in-Write g c = λ format is. record {
 }
 
 pub returns-in-NotInFormat : goal.returns-in-NotInFormat
-returns-in-NotInFormat g c = λ format is. record {
+returns-in-NotInFormat g c = record {
   answer = Err (NotInFormat c.in-NotInFormat.line);
-  converts = rw c.in-NotInFormat.is at c.in-Err.ensures.converts format is;
+  restates = rw c.in-NotInFormat.is at c.in-Err.ensures.restates;
   lines = tt;
   reads = rw c.in-NotInFormat.is at c.in-Err.ensures.reads;
   writes = rw c.in-NotInFormat.is at c.in-Err.ensures.writes;
-  tells = (rw is at c.print_not_in_format.ensures, refl);
+  tells = (rw c.number.ensures at c.print_not_in_format.ensures, refl);
 }
