@@ -131,12 +131,19 @@ impl fmt::Display for MistakeOf {
                 fate,
                 unit,
                 like,
-            } => write_receipt(f, unit_missing(side, before, unit, like), fate),
+            } => {
+                let missing = unit_missing(side, before, unit, like);
+                write_receipt(f, missing, receipt_line(fate), "with the bytes of")
+            }
             Mistake::DamagedMissing { before, unit, like } => {
-                write_damaged(f, unit_missing(side, before, unit, like))
+                let missing = unit_missing(side, before, unit, like);
+                write_receipt(f, missing, "the `r` line of a damaged unit", "sent in")
             }
             Mistake::NoiseMissing { before } => write_missing(f, side, "an `n` line", before),
-            Mistake::UserMissing { before, entry } => write_user_line(f, side, entry, before),
+            Mistake::UserMissing { before, entry } => {
+                write_user(f, entry)?;
+                write_missing(f, side, "", before)
+            }
             Mistake::TooLate { line, before } => write_moved(
                 f, side, line, "late", "before", before,
             ),
@@ -208,18 +215,17 @@ fn write_sent<W: fmt::Write>(f: &mut fmt::Formatter<W>, missing: Missing) -> fmt
     write!(f, ": unit {unit}, with the bytes of line {like} of {other}")
 }
 
+// That a receipt is missing, and how the other side tells of its unit.
 fn write_receipt<W: fmt::Write>(
     f: &mut fmt::Formatter<W>,
     missing: Missing,
-    fate: Fate,
+    receipt: &str,
+    told: &str,
 ) -> fmt::Result {
-    write_missing(f, missing.side, receipt_line(fate), missing.before)?;
+    write_missing(f, missing.side, receipt, missing.before)?;
     let (unit, like) = (missing.unit, missing.like);
     let other = missing.side.other();
-    write!(
-        f,
-        ": unit {unit} of {other}, with the bytes of line {like} of {other}"
-    )
+    write!(f, ": unit {unit} of {other}, {told} line {like} of {other}")
 }
 
 fn receipt_line(fate: Fate) -> &'static str {
@@ -228,27 +234,6 @@ fn receipt_line(fate: Fate) -> &'static str {
         Fate::Kept => "a `k` line",
         Fate::Dropped => "a `d` line",
     }
-}
-
-fn write_damaged<W: fmt::Write>(f: &mut fmt::Formatter<W>, missing: Missing) -> fmt::Result {
-    let what = "the `r` line of a damaged unit";
-    write_missing(f, missing.side, what, missing.before)?;
-    let (unit, like) = (missing.unit, missing.like);
-    let other = missing.side.other();
-    write!(
-        f,
-        ": unit {unit} of {other}, sent in line {like} of {other}"
-    )
-}
-
-fn write_user_line<W: fmt::Write>(
-    f: &mut fmt::Formatter<W>,
-    side: Side,
-    entry: Entry,
-    before: u64,
-) -> fmt::Result {
-    write_user(f, entry)?;
-    write_missing(f, side, "", before)
 }
 
 // The line of an event, where it has a message without that.
