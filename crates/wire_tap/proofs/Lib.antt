@@ -4,6 +4,7 @@ pub mod MoveLaws
 pub mod TimeLaws
 pub mod TellLaws
 pub mod PassLaws
+pub mod ByteLaws
 pub mod SideLaws
 pub mod EndLaws
 pub mod LineLaws

@@ -29,7 +29,8 @@ use Rattle.wire_tap.specs.inner.Side.{PassesBytes, SideState, Tells, aim, units_
 use Rattle.wire_tap.proofs.MoveLaws.{if_ok_both}
 use Rattle.wire_tap.proofs.PassLaws.{ends_same}
 use Rattle.wire_tap.proofs.TellLaws.{units_more}
-use Rattle.wire_tap.proofs.SideLaws.{beside, bytes_more, over_all, over_beside, over_some, piece_on, units_same, written_on}
+use Rattle.wire_tap.proofs.ByteLaws.{bytes_more}
+use Rattle.wire_tap.proofs.SideLaws.{beside, over_all, over_beside, over_some, piece_on, units_same, written_on}
 use Rattle.wire_tap.proofs.TimeLaws.{grows, had_passed}
 use Rattle.wire_tap.proofs.EndLaws.{stop_from}
 

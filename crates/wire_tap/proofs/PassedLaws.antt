@@ -16,7 +16,7 @@ use Rattle.wire_text.specs.WireText.{Piece, piece}
 use Rattle.wire_tap.specs.Units.{UnitPassed, bytes_if, bytes_of, line_at, message_of, messages, messages_at, passed_after, passed_in}
 use Rattle.wire_tap.specs.Units.{passed_with, side_passed, unit_if, units_by, units_within}
 use Rattle.wire_tap.specs.Units.{unit_passed, with_lines}
-use Rattle.wire_tap.proofs.SideLaws.{bytes_more}
+use Rattle.wire_tap.proofs.ByteLaws.{bytes_more}
 
 -- ---- units with their lines
 

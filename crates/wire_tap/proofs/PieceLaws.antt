@@ -26,7 +26,7 @@ use Rattle.wire_tap.specs.declared.tapped.Passed.{Passed}
 use Rattle.wire_tap.specs.inner.Accused.{FindsAll, FirstIs, IsBehind, IsLineBehind, IsOnLine}
 use Rattle.wire_tap.specs.inner.Accused.{IsReading, IsTold, KeepsLines, Leaves, LeavesSegment, SegmentIs}
 use Rattle.wire_tap.proofs.PassedLaws.{all_bytes, line-before, line-last, own_bytes, passed-push, with-is}
-use Rattle.wire_tap.proofs.SideLaws.{bytes_more}
+use Rattle.wire_tap.proofs.ByteLaws.{bytes_more}
 
 -- ---- the side of the piece
 

@@ -1,50 +1,26 @@
 -- One side of what a tap wrote, from one piece to the next, and where no more is read.
-use Rattle.std.proofs.Common.{◌≡◌, ℕ, ◌+◌, ◌<◌, ◌^◌, List, [], ◌∷◌, ◌++◌, length, Option, Some, None, refl, sym, ap, subst}
-use Rattle.std.proofs.Common.{◌∙◌, arith, append_assoc, append-nil, length-append}
+use Rattle.std.proofs.Common.{◌≡◌, ℕ, ◌+◌, ◌<◌, ◌^◌, List, [], ◌++◌, length, Option, Some, None, refl, sym, ap, subst, ◌∙◌, arith, append_assoc}
+use Rattle.std.proofs.Common.{append-nil, length-append}
 use Rattle.wire_base.specs.declared.side.Side.{Side}
 use Rattle.capture.specs.declared.hint.HintForm.TheVariants.{Number}
 use Rattle.capture_record.specs.declared.record.Record.{Record}
 use Rattle.capture.specs.Paged.{HandsOver}
 use Rattle.capture.specs.Text.{record_lines}
-use Rattle.framer.specs.Framing.{Framing, framing, joined}
+use Rattle.framer.specs.Framing.{Framing, framing}
 use Rattle.framer.specs.SoFar.{IsFramedSoFar}
-use Rattle.framer.proofs.Passing.{ends_on}
 use Rattle.framer.proofs.SoFarLaws.{piece_more, whole}
 use Rattle.placing.specs.Placed.{HavePassed, NameUnits, Units, Waiting, units_sent}
 use Rattle.wire_text.specs.WireText.{Piece}
-use Rattle.wire_tap.specs.Units.{bytes_if, bytes_of, messages}
+use Rattle.wire_tap.specs.Units.{messages}
 use Rattle.wire_tap.specs.declared.tapped.Ending.{Ending}
 use Rattle.wire_tap.specs.Tapping.{HadPassed}
 use Rattle.wire_tap.specs.inner.Moving.{AreInTime, IsOver, IsUnderWay, StandsBeside}
 use Rattle.wire_tap.specs.inner.Side.{HoldsOfMore, MovesOn, PassesAll, PassesFound, SideState, UnitsState, counted}
+use Rattle.wire_tap.proofs.ByteLaws.{framed_then}
 use Rattle.wire_tap.proofs.MoveLaws.{lines-append, messages-append, sent-append}
 use Rattle.wire_tap.proofs.NameLaws.{all_told, names-append, names_later}
 use Rattle.wire_tap.proofs.TimeLaws.{Grows, count_all, time_moves, time_on, time_same}
 use Rattle.capture.proofs.OverLaws.{more_over, on_over}
-
--- ---- the bytes of a side
-
-pub bytes_more : (side : Side) (pieces : List Piece) (p : Piece) →
-    bytes_of side (pieces ++ p ∷ []) ≡ bytes_of side pieces ++ bytes_if side p.side p.bytes
-bytes_more side [] p = append-nil (bytes_if side p.side p.bytes)
-bytes_more side (q ∷ pieces) p =
-    ap (λ (rest : List ℕ). bytes_if side q.side q.bytes ++ rest) (bytes_more side pieces p)
-    ∙ sym (append_assoc (bytes_if side q.side q.bytes) (bytes_of side pieces) (bytes_if side p.side p.bytes))
-
--- what was found of some bytes, and then of what they left
-framed_then : (all mid come : List ℕ) (f g : Framing) → IsFramedSoFar all f mid → IsFramedSoFar mid g come →
-    IsFramedSoFar all (record f { units = f.units ++ g.units; strays = f.strays + g.strays }) come
-framed_then all mid come f g p q = record {
-  framed = p.framed ∙ ap (joined f) q.framed ∙ together (framing come);
-  ends = ends_on all mid come p.ends q.ends;
-}
-  where
-    together : (h : Framing) → joined f (joined g h) ≡ joined (record f { units = f.units ++ g.units; strays = f.strays + g.strays }) h
-    together h =
-        let count : f.strays + (g.strays + h.strays) ≡ f.strays + g.strays + h.strays = omega arith in
-        rw (append_assoc f.units g.units h.units, count) refl
-
--- ---- one side
 
 -- more was put, and nothing written
 pub over_more : (head : List ℕ) (records more : List Record) (text text' : List ℕ) (old now : Option (List ℕ)) →
