@@ -125,7 +125,7 @@ known_met w (Sound m tag) kept =
 known_met w HeaderBad kept = damage_load nak.HeaderCheck w
 known_met w DataBad kept = damage_load nak.DataCheck w
 
-known_sent_low : (bound : ℕ) (m : MessageValue) (slot : Option Known) → KnownIsLow bound slot → KnownIsLow (bound + 1) (known_sends m slot)
+pub known_sent_low : (bound : ℕ) (m : MessageValue) (slot : Option Known) → KnownIsLow bound slot → KnownIsLow (bound + 1) (known_sends m slot)
 known_sent_low bound m None low = tt
 known_sent_low bound m (Some w) low = go (wire_sending_refusal w m)
   where
@@ -133,7 +133,7 @@ known_sent_low bound m (Some w) low = go (wire_sending_refusal w m)
     go None = omega (arith, known_sent w m, low)
     go (Some refusal) = tt
 
-known_met_low : (bound : ℕ) (arrival : ArrivalValue Tag) (kept : Bool) (slot : Option Known) → KnownIsLow bound slot →
+pub known_met_low : (bound : ℕ) (arrival : ArrivalValue Tag) (kept : Bool) (slot : Option Known) → KnownIsLow bound slot →
     KnownIsLow (bound + 1) (known_meets arrival kept slot)
 known_met_low bound arrival kept None low = tt
 known_met_low bound arrival kept (Some w) low = go (known_arrival_refusal w arrival kept)
