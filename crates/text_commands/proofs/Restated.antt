@@ -71,8 +71,8 @@ same_line from form from_part to_part (User event) m e no = ap (record_text form
 -- two truths are one where each gives the other
 pub same_truth : (a b : Bool) → (IsTrue a ↔ IsTrue b) → a ≡ b
 same_truth false false both = refl
-same_truth false true both = absurd (both.1 tt)
-same_truth true false both = absurd (both.0 tt)
+same_truth false true both = both.1 refl
+same_truth true false both = sym (both.0 refl)
 same_truth true true both = refl
 
 -- ---- lists of records

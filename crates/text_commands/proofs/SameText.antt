@@ -1,6 +1,6 @@
 -- A text that was written in another form: it is one of that form, and written back the first again.
 use Rattle.std.proofs.Common.{◌≡◌, ℕ, ◌+◌, ◌<◌, ◌≤◌, Bool, true, false, List, [], ◌∷◌, length, Option, Some, None, Ok, refl, sym, ap, subst, ◌∙◌, arith}
-use Rattle.std.specs.Prelude.{IsTrue, nat_lt, if◌then◌else◌}
+use Rattle.std.specs.Prelude.{nat_lt, if◌then◌else◌}
 use Rattle.std.specs.Option.{option_map}
 use Rattle.std.specs.List.{AllByRecursion}
 use Rattle.std.proofs.lemmas.Bool.{ltb-true}
@@ -37,7 +37,7 @@ hint_fits false true hint same small e =
     let less : hint < MAX_HINT = ltb-true hint MAX_HINT found.0 in
     let is : hint + 1 ≡ same = found.1 in
     omega arith
-hint_fits true false 0 same small e = absurd cc
+hint_fits true false zero same small e = absurd cc
 hint_fits true false (suc hint) same small e = let is = same_Some hint same e in omega arith
 
 -- and says the first again
@@ -45,13 +45,13 @@ hint_back : (from_part to_part : Bool) (hint same again : ℕ) → hint_said fro
     hint_said to_part from_part same ≡ Some again → again ≡ hint
 hint_back false false hint same again e f = sym (same_Some hint same e ∙ same_Some same again f)
 hint_back true true hint same again e f = sym (same_Some hint same e ∙ same_Some same again f)
-hint_back false true hint 0 again e f = absurd cc
+hint_back false true hint zero again e f = absurd cc
 hint_back false true hint (suc same) again e f =
     let found = cond_some (nat_lt hint MAX_HINT) (hint + 1) (suc same) e in
     let is : hint + 1 ≡ suc same = found.1 in
     let back : same ≡ again = same_Some same again f in
     omega arith
-hint_back true false 0 same again e f = absurd cc
+hint_back true false zero same again e f = absurd cc
 hint_back true false (suc hint) same again e f =
     let is : hint ≡ same = same_Some hint same e in
     let found = cond_some (nat_lt same MAX_HINT) (same + 1) again f in
@@ -93,8 +93,8 @@ said_in_each from_part to_part (Noise bytes) m e = ap in_each_format (sym (same_
 said_in_each from_part to_part (User event) m e = ap in_each_format (sym (same_Some _ _ e))
 
 in_format : (format : Format) (r m : Record) → has_line (Whole format) r ≡ true → in_each_format m ≡ in_each_format r → IsInFormat format m
-in_format One r m has same = subst IsTrue (sym (same ∙ has)) tt
-in_format Two r m has same = subst IsTrue (sym (same ∙ has)) tt
+in_format One r m has same = same ∙ has
+in_format Two r m has same = same ∙ has
 in_format Three r m has same = tt
 
 -- ---- lists of records

@@ -98,12 +98,21 @@ fn put_receipt(page: &mut Page, is_part: bool, hint: u64, bytes: &[u8])
         return;
     }
     if hint == 0 {
-        page.put(b"- ");
-        put_unit(page, bytes);
-        page.put(b", sent before the other capture begins");
+        put_earlier(page, bytes);
         return;
     }
     put_hinted(page, hint - 1, bytes);
+}
+
+// What came of a unit that was sent before the other capture begins.
+fn put_earlier(page: &mut Page, bytes: &[u8])
+    requires room { length page.old + 300 ≤ PAGE_SIZE }
+    ensures bytes { page.new ≡ page.old ++ (codes "- " ++ (unit_words bytes.now ++ codes ", sent before the other capture begins")) }
+    ensures len { length page.new ≤ length page.old + 300 }
+{
+    page.put(b"- ");
+    put_unit(page, bytes);
+    page.put(b", sent before the other capture begins");
 }
 
 // The number of a unit, and what came.
